@@ -39,18 +39,18 @@ module _ (n : ModelTree) (g : Setting) (c e : Config) (p : Process) (same : Same
   there = in_model n g
 
   pub place_there : (i : ℕ) → IsOf g.model i → slice_get (processes n) i ≡ slice_get (processes g.model) i
-  place_there i of = ap (λ (ps : List Address). slice_get ps i) same.processes ∙ got_first (processes g.model) (same.more ∷ []) i of
+  place_there i of = ap (λ (ps : List Address). slice_get ps i) same.behind ∙ got_first (processes g.model) (same.more ∷ []) i of
 
   pub here_there : (i : ℕ) → IsOf g.model i → slice_get e.processes i ≡ slice_get c.processes i
   here_there i of = ap (λ (ps : List Process). slice_get ps i) more.processes ∙ got_first c.processes (p ∷ []) i (subst (λ (k : ℕ). i < k) (sym more.whole) of)
 
-  is_of : (i : ℕ) (q : Process) (a : Context) → Stands g c i q a → IsOf g.model i
+  pub is_of : (i : ℕ) (q : Process) (a : Context) → Stands g c i q a → IsOf g.model i
   is_of i q a st = slice_get_within (processes g.model) i st.place st.is_process
 
   pub both_whole : IsWhole there e
   both_whole =
       ap length more.processes ∙ length-append c.processes (p ∷ []) ∙ ap (λ (k : ℕ). k + 1) more.whole
-      ∙ sym (ap length same.processes ∙ length-append (processes g.model) (same.more ∷ []))
+      ∙ sym (ap length same.behind ∙ length-append (processes g.model) (same.more ∷ []))
 
   pub stands_there : (i : ℕ) (q : Process) (a : Context) → Stands g c i q a → Stands there e i q (seen_in n a)
   stands_there i q a st =
@@ -109,7 +109,7 @@ module _ (n : ModelTree) (g : Setting) (c e : Config) (p : Process) (same : Same
   -- The one more
 
   pub last_place : slice_get (processes n) (number_of_more g.model) ≡ Some same.more
-  last_place = ap (λ (ps : List Address). slice_get ps (number_of_more g.model)) same.processes ∙ got_last (processes g.model) same.more
+  last_place = ap (λ (ps : List Address). slice_get ps (number_of_more g.model)) same.behind ∙ got_last (processes g.model) same.more
 
   pub last_process : slice_get e.processes (number_of_more g.model) ≡ Some p
   last_process =

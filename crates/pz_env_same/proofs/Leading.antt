@@ -23,7 +23,7 @@ use Rattle.pz_env_same.specs.OneMore.{OneMore, behind, result_behind, IsOf, numb
 use Rattle.pz_env_same.proofs.Meeting.{performs_same, hands_same, takes_same, acts_meets}
 use Rattle.pz_env_same.proofs.Behind.{to_there, from_there}
 
-abbrev config : ℕ → List Process → Config
+abbrev pub config : ℕ → List Process → Config
 config clock ps = record { clock = clock; processes = ps }
 
 -- What one process becomes

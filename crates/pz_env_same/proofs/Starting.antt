@@ -31,11 +31,11 @@ module _ (n : ModelTree) (g : Setting) (place : Address) (same : SameProcess g.m
   abbrev there : Setting
   there = in_model n g
 
-  begins_same : (call : Step) → begins_with g place call ≡ begins_with there place call
-  begins_same call =
-      ap swept (opened_same g.model n g.limits.edition (class_at g.model place) same.statements call (initial (values_at g.model place)))
-      ∙ ap (λ (k : ℕ). swept (opened (home_in n g.limits.edition k) call (initial (values_at g.model place)))) same.class
-      ∙ ap (λ (vs : List Value). swept (opened (home_in n g.limits.edition (class_at n place)) call (initial vs))) same.values
+  begins_same : (first : Step) → begins_with g place first ≡ begins_with there place first
+  begins_same first =
+      ap swept (opened_same g.model n g.limits.edition (class_at g.model place) same.statements first (initial (values_at g.model place)))
+      ∙ ap (λ (k : ℕ). swept (opened (home_in n g.limits.edition k) first (initial (values_at g.model place)))) same.class
+      ∙ ap (λ (vs : List Value). swept (opened (home_in n g.limits.edition (class_at n place)) first (initial vs))) same.values
 
   call_same : init g.model (class_at g.model place) ≡ init n (class_at n place)
   call_same = same.init ∙ ap (init n) same.class
@@ -53,7 +53,7 @@ module _ (n : ModelTree) (g : Setting) (c e : Config) (p : Process) (same : Same
   start_there start starts = record {
     clock = more.clock ∙ start.clock;
     all = ap length more.processes ∙ length-append c.processes (p ∷ []) ∙ ap (λ (j : ℕ). j + 1) more.whole
-        ∙ sym (ap length same.processes ∙ length-append (processes g.model) (same.more ∷ []));
+        ∙ sym (ap length same.behind ∙ length-append (processes g.model) (same.more ∷ []));
     each = λ i place q is_place is. by i place q is_place is (cases_lt i (length (processes g.model)));
   }
     where
@@ -71,7 +71,7 @@ module _ (n : ModelTree) (g : Setting) (e : Config) (same : SameRules g.model n)
   pub start_back : HasStart n g e
   start_back =
       let k = length (processes g.model) in
-      let parts = split_last e.processes k (start.all ∙ ap length same.processes ∙ length-append (processes g.model) (same.more ∷ []) ∙ omega arith) in
+      let parts = split_last e.processes k (start.all ∙ ap length same.behind ∙ length-append (processes g.model) (same.more ∷ []) ∙ omega arith) in
       let c : Config = config e.clock parts.front in
       let both : OneMore g c e parts.last = record { whole = parts.long; clock = refl; processes = parts.is } in
       record {

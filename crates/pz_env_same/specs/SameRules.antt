@@ -45,7 +45,7 @@ pub record SameProcess (m n : ModelTree) (place : Address) : Type 0 where
 pub record SameRules (m n : ModelTree) : Type 0 where
   pub data_classes : SameData m n
   pub more : Address
-  pub processes : processes n ≡ processes m ++ more ∷ []
+  pub behind : processes n ≡ processes m ++ more ∷ []
   pub each : (i : ℕ) (place : Address) → slice_get (processes m) i ≡ Some place → SameProcess m n place
   pub wires : (i port wire : ℕ) → i < length (processes m) → IsWire m i port wire ↔ IsWire n i port wire
 
