@@ -85,7 +85,7 @@ module _ (n : ModelTree) (g : Setting) (c e : Config) (p : Process) (same : Same
   pub again_here : (i : ℕ) (q : Process) (a : Context) → Stands g c i q a → seen_in g.model (seen_in n a) ≡ a
   again_here i q a st = ap (λ (b : Context). seen_in g.model (seen_in n b)) st.seen ∙ sym st.seen
 
-  sees_there : (i : ℕ) (q : Process) (a : Context) → IsOf g.model i → Stands there e i q a → SeesTheSame g.model a
+  pub sees_there : (i : ℕ) (q : Process) (a : Context) → IsOf g.model i → Stands there e i q a → SeesTheSame g.model a
   sees_there i q a of st =
       let b = seen_in g.model a in
       let sees : SeesTheSame n b = processes_see n g c i q b same (stands_back i q a of st) in

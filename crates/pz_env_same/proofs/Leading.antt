@@ -88,7 +88,7 @@ module _ (n : ModelTree) (g : Setting) (c e : Config) (p : Process) (same : Same
   leads_back _ of _ (steps.communication wire s r message parcel sent taken hands takes) = (
     and_then sent (λ q. and_then taken (λ x. Ok (with_both c s r q x))),
     steps.communication wire s r message parcel sent taken
-    (acts_meets there e g c (λ a f. Hands a f parcel) (hands_same parcel) s sent (from_there n g c e p same more s.process of.0) hands)
-    (acts_meets there e g c (λ a f. Takes a f parcel) (takes_same parcel) r taken (from_there n g c e p same more r.process of.1) takes),
+        (acts_meets there e g c (λ a f. Hands a f parcel) (hands_same parcel) s sent (from_there n g c e p same more s.process of.0) hands)
+        (acts_meets there e g c (λ a f. Takes a f parcel) (takes_same parcel) r taken (from_there n g c e p same more r.process of.1) takes),
     both_result s r of.0 of.1 sent taken,
   )
