@@ -123,7 +123,8 @@ module _ (n : ModelTree) (g : Setting) (c e : Config) (p : Process) (same : Same
       let whole : length c.processes ≡ length (processes g.model) = more.whole in
       by_order (cases_lt i (length (processes g.model))) within long whole
     where
-      by_order : (i < length (processes g.model)) ⊎ (length (processes g.model) ≤ i) → i < length e.processes → length e.processes ≡ length c.processes + 1 → length c.processes ≡ length (processes g.model) → i ≡ number_of_more g.model
+      by_order : (i < length (processes g.model)) ⊎ (length (processes g.model) ≤ i) → i < length e.processes → length e.processes ≡ length c.processes + 1
+          → length c.processes ≡ length (processes g.model) → i ≡ number_of_more g.model
       by_order (inl of) within long whole = absurd (not_of of)
       by_order (inr past) within long whole = omega (arith, past, within, long, whole)
 

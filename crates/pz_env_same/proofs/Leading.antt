@@ -49,7 +49,8 @@ is_behind g c e p more = ap (λ (t : ℕ). config t e.processes) more.clock ∙ 
 one_behind : (g : Setting) (c e : Config) (p : Process) (i : ℕ) (q : Process) → IsOf g.model i → OneMore g c e p → with_process e i q ≡ behind (with_process c i q) p
 one_behind g c e p i q of more = is_behind g (with_process c i q) (with_process e i q) p (becomes_same g c e p i q of more)
 
-both_behind : (g : Setting) (c e : Config) (p : Process) (s r : End) (q x : Process) → IsOf g.model s.process → IsOf g.model r.process → OneMore g c e p → with_both e s r q x ≡ behind (with_both c s r q x) p
+both_behind : (g : Setting) (c e : Config) (p : Process) (s r : End) (q x : Process) → IsOf g.model s.process → IsOf g.model r.process → OneMore g c e p
+    → with_both e s r q x ≡ behind (with_both c s r q x) p
 both_behind g c e p s r q x of_s of_r more = one_behind g (with_process c s.process q) (with_process e s.process q) p r.process x of_r (becomes_same g c e p s.process q of_s more)
 
 -- What an action leads to

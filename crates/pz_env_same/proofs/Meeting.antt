@@ -61,7 +61,8 @@ module _ (g : Setting) (c : Config) (h : Setting) (e : Config) where
   internal_meets _ _ _ meets (offers.internal at a f t kind pos is does) =
       offers.internal at (seen_in h.model a) f t kind pos (part_meets at meets a f t is) (can h.model a (sees_at at meets a f t is) f t kind pos does)
 
-  pub pair_meets : (wire : ℕ) (s r : End) (message : List ℕ) (parcel : ParcelView) → Meets g c h e s.process → Meets g c h e r.process → IsPair g c wire s r message parcel → IsPair h e wire s r message parcel
+  pub pair_meets : (wire : ℕ) (s r : End) (message : List ℕ) (parcel : ParcelView) → Meets g c h e s.process → Meets g c h e r.process
+      → IsPair g c wire s r message parcel → IsPair h e wire s r message parcel
   pair_meets wire s r message parcel meets_s meets_r is = record {
     sends_at = seen_in h.model is.sends_at;
     sends_frame = is.sends_frame;
