@@ -15,6 +15,6 @@ mod standing;
 mod statements;
 
 pub use closing::close;
-pub use header::drive_header;
 pub use error::CloseError;
+pub use header::drive_header;
 pub use refusing::refused_line;

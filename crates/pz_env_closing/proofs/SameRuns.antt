@@ -32,9 +32,10 @@ module _ (closes : ClosedTreesClose) (each_line : mimics.EventLinesAreSame) (end
       let g = driving m script limits in
       let n = closed_tree m script in
       let is = closes m script limits may drive in
-      let x = chosen g n policy run.start run.end run.events run.ending is run.is_start run.is_chosen in
-      (record { start = x.start; is_start = x.is_start; events = x.events; end = x.end; ending = run.ending; is_chosen = x.run },
-      record { ending = refl; text = same_text each_line end_line g n is.environment x.events run.events x.end.system.clock run.end.clock run.ending x.same x.clock })
+      let x = chosen g n policy run.start run.end run.events run.ending is run.is_start run.is_chosen in (
+        record { start = x.start; is_start = x.is_start; events = x.events; end = x.end; ending = run.ending; is_chosen = x.run },
+        record { ending = refl; text = same_text each_line end_line g n is.environment x.events run.events x.end.system.clock run.end.clock run.ending x.same x.clock },
+      )
 
   module _ (are : ChosenRunsAreRuns) (m : ModelTree) (script : List Entry) (limits : Limits) (policy : Policy) where
     -- behind the same first line, whatever events and end these are
@@ -52,13 +53,14 @@ module _ (closes : ClosedTreesClose) (each_line : mimics.EventLinesAreSame) (end
         let n = closed_tree m script in
         let is = closes m script limits may drive in
         let x = chosen g n policy driven.start driven.end driven.events driven.ending is driven.is_start driven.is_chosen in
-        let w = whole_of (closed_setting m script limits) policy x.start x.is_start x.told x.last are driven.ending x.run in
-        (w.run,
-        record {
-          ending = sym w.ending;
-          text = same_text each_line end_line g n is.environment driven.events x.told driven.end.system.clock x.last.clock driven.ending x.same x.clock
-              ∙ same_behind w.run.events x.told w.run.end x.last w.run.ending driven.ending w.events w.end w.ending;
-        })
+        let w = whole_of (closed_setting m script limits) policy x.start x.is_start x.told x.last are driven.ending x.run in (
+          w.run,
+          record {
+            ending = sym w.ending;
+            text = same_text each_line end_line g n is.environment driven.events x.told driven.end.system.clock x.last.clock driven.ending x.same x.clock
+                ∙ same_behind w.run.events x.told w.run.end x.last w.run.ending driven.ending w.events w.end w.ending;
+          },
+        )
 
 -- a policy chooses one run of the closed model, which is sound
 pub end_once : DrivenRunsAreClosed → HasOneRun → ((m : ModelTree) (script : List Entry) → MayClose m script → IsSound (closed_tree m script)) → OneDrivenEnding

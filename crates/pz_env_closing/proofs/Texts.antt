@@ -1,5 +1,5 @@
 -- The text of a driven run, and that of the run of the model that closes the system.
-use Rattle.std.proofs.Common.{◌≡◌, ◌∙◌, ℕ, List, [], ◌∷◌, ◌++◌, refl, ap}
+use Rattle.std.proofs.Common.{◌≡◌, ◌∙◌, ℕ, List, [], ◌∷◌, ◌++◌, refl, sym, ap}
 use Rattle.std.specs.List.{AllZip, flat_map}
 use Rattle.pz_syntax.specs.Classes.{ModelTree}
 use Rattle.pz_rules.specs.Runs.{Event, Ending, ended, deadlocked, troubled, halted, refused}
@@ -35,4 +35,4 @@ module _ (each_line : EventLinesAreSame) (end_line : EndLinesAreSame) (g : Drivi
   same_text events told clock late ending same clocks =
       ap (λ (l : List ℕ). drive_header g.setting.limits.units ++ (l ++ last_line g clock ending)) (same_lines events told same)
       ∙ ap (λ (l : List ℕ). drive_header g.setting.limits.units ++ (trace.events_text n told ++ l)) (same_last clock ending)
-      ∙ ap (λ (c : ℕ). text_under (drive_header g.setting.limits.units) n told c ending) (λ i. clocks (~ i))
+      ∙ ap (λ (c : ℕ). text_under (drive_header g.setting.limits.units) n told c ending) (sym clocks)

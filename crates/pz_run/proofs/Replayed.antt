@@ -521,7 +521,6 @@ module _ (model name : List ℕ) (units : ℕ) where
         watch_refused = end.watch_refused;
         script_refused = end.script_refused;
         no_watches = λ none _ _. no_lists none;
-      no_script = λ none _ _. no_scripts none;
         no_script = λ none _ _. no_scripts none;
         trace_opened = λ tells _. accepted tells;
         too_long = λ is. absurd (end.not_long is);

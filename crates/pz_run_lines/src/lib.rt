@@ -4,6 +4,6 @@
 mod lines;
 
 pub use lines::{
-    accepted_line, model_refused_line, read_fault_line, too_long_line, usage_line,
-    script_refused_line, watch_refused_line,
+    accepted_line, model_refused_line, read_fault_line, script_refused_line, too_long_line,
+    usage_line, watch_refused_line,
 };

@@ -121,16 +121,7 @@ pub fn play_summary<S: Simulator, L: Ledger, W: Sink>(
     rules_are_known();
     let mut listener = Listener::Silent;
     let none = Ok(Vec::new(alloc));
-    let played = play(
-        alloc,
-        sim,
-        none,
-        choice,
-        limits,
-        &mut listener,
-        steps,
-        out,
-    );
+    let played = play(alloc, sim, none, choice, limits, &mut listener, steps, out);
     drop(listener);
     let played = played?;
     tell_summary(alloc, sim, played, out)?;
