@@ -138,10 +138,11 @@ fn hands_out(
     let mut out = RoomySink::new(alloc, 1_000, none)?;
     let finish = finish(alloc, line, &mut files, &mut out)?;
     assert_eq!(rt; finish.status.number(), status, "{line}");
-    match &finish.sim {
-        Some(sim) => Ok(Some(offers_its_message(sim)?)),
-        None => Ok(None),
-    }
+    let stands = match &finish.sim {
+        Some(sim) => Some(offers_its_message(sim)?),
+        None => None,
+    };
+    Ok(stands)
 }
 
 #[test]
