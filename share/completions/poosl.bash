@@ -6,7 +6,7 @@ _poosl_options() { # job
   case $1 in
     run) echo --first --seed --choices --steps --until --units --summary ;;
     chart) echo --first --seed --choices --steps --until --units --svg ;;
-    menu | ring | watch) echo --first --seed --choices --steps --until --units ;;
+    menu | ring | watch | drive) echo --first --seed --choices --steps --until --units ;;
     replay) echo --units ;;
   esac
 }
@@ -30,7 +30,7 @@ _poosl_kinds() {
 }
 
 _poosl() {
-  local jobs='run menu replay check make ring format watch' own='chart debug explain now install help version'
+  local jobs='run menu replay check make ring watch drive format' own='chart debug explain now install help version'
   local word=${COMP_WORDS[COMP_CWORD]} at=1 job files=0
   COMPREPLY=()
   # (behind 'now' stands a job of the program, or a chart)
@@ -42,14 +42,14 @@ _poosl() {
   job=${COMP_WORDS[at]}
   case $job in
     run | menu | check | format | chart) files=1 ;;
-    replay | watch | debug) files=2 ;;
+    replay | watch | drive | debug) files=2 ;;
     install) mapfile -t COMPREPLY < <(compgen -d -- "$word"); compopt -o filenames 2>/dev/null; return ;;
     help) mapfile -t COMPREPLY < <(compgen -W "$jobs $own" -- "$word"); return ;;
     explain) mapfile -t COMPREPLY < <(compgen -W "$(_poosl_kinds "${COMP_WORDS[0]/#\~/$HOME}")" -- "$word"); return ;;
   esac
   if ((COMP_CWORD - at <= files)); then
     compopt -o filenames 2>/dev/null
-    # (a trace may have any name, and so may watches)
+    # (a trace may have any name, and so may watches and a script)
     if [[ $job == chart ]] || ((COMP_CWORD - at == 2)); then
       mapfile -t COMPREPLY < <(compgen -f -- "$word")
     else

@@ -11,7 +11,7 @@ BEGIN {
 }
 
 NR == 1 {
-  if ($0 !~ /^poosl-trace [0-9]+( [0-9]+)*$/) refuse("line 1 does not begin a trace")
+  if ($0 !~ /^poosl-(trace|drive) [0-9]+( [0-9]+)*$/) refuse("line 1 does not begin a trace")
   next
 }
 wrong != "" { next }

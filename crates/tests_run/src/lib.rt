@@ -8,6 +8,8 @@ mod programs;
 #[cfg(test)]
 mod replays;
 #[cfg(test)]
+mod scripts;
+#[cfg(test)]
 mod simulators;
 #[cfg(test)]
 mod watches;
