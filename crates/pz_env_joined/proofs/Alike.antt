@@ -53,6 +53,19 @@ became m n grown c d here = by (declaration m c) (declaration n c) here refl (gr
     by _ _ is there nothing = cc
     by _ _ is there (new p root) = cc
 
+-- a class of the model, and what it is declared as
+abbrev pub IsDeclared : ModelTree → ℕ → Type 0
+IsDeclared m c = (d : DeclTree) × (declaration m c ≡ Some d)
+
+-- what is the same of every system is the same of a class of the model
+pub of_declared : {A : Type 0} (f : DeclTree → A) (none : A) → ((s t : SystemDecl) → f (system s) ≡ f (system t)) → (m n : ModelTree) → Grown m n → (c : ℕ) → IsDeclared m c
+    → option_map_or f (declaration m c) none ≡ option_map_or f (declaration n c) none
+of_declared f none still m n grown c (d, is) =
+    let now = became m n grown c d is in
+    ap (λ (o : Option DeclTree). option_map_or f o none) is
+    ∙ of_alike f still d now.decl now.like
+    ∙ sym (ap (λ (o : Option DeclTree). option_map_or f o none) now.there)
+
 -- Made so from the lists
 
 is_named_like : (name : List ℕ) (d e : DeclTree) → Alike d e → is_named name d ≡ is_named name e

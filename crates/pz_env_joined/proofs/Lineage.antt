@@ -120,7 +120,7 @@ module _ (up : ℕ → Option ℕ) where
       by None at more rest = cc
       by (Some p) at more rest = rest p at more (omega (arith, low))
 
-not_both : (a b : Bool) → a ≡ false → (IsTrue (not a && not b) → ⊥) → b ≡ true
+pub not_both : (a b : Bool) → a ≡ false → (IsTrue (not a && not b) → ⊥) → b ≡ true
 not_both _ true is never = refl
 not_both true false is never = cc
 not_both false false is never = absurd (never refl)
@@ -166,6 +166,9 @@ module _ (m : ModelTree) (sound : IsSound m) where
       by_decl : (o : Option DeclTree) → declaration m c ≡ o → option_and_then (parent_of m) o ≡ Some p → Child c p
       by_decl None here up = cc
       by_decl (Some d) here up = by_name d here (extended d) refl up
+
+  pub parent_declared : (c p : ℕ) → parent m c ≡ Some p → (d : DeclTree) × (declaration m p ≡ Some d)
+  parent_declared c p is = let at = child c p is in (at.above, at.above_is)
 
   -- parents do not go round
   flat : AncestorsAreReached → (c p : ℕ) → parent m c ≡ Some p → Reaches (parent m) p c → ⊥
