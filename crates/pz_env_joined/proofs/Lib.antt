@@ -5,3 +5,5 @@ pub mod Members
 pub mod Bodies
 pub mod Methods
 pub mod Instances
+pub mod Depth
+pub mod Places
