@@ -7,3 +7,5 @@ pub mod Methods
 pub mod Instances
 pub mod Depth
 pub mod Places
+pub mod Standing
+pub mod Wiring
