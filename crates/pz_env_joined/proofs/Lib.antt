@@ -9,3 +9,5 @@ pub mod Depth
 pub mod Places
 pub mod Standing
 pub mod Wiring
+pub mod Numbered
+pub mod Calls
