@@ -11,3 +11,5 @@ pub mod Standing
 pub mod Wiring
 pub mod Numbered
 pub mod Calls
+pub mod Firsts
+pub mod Closing
