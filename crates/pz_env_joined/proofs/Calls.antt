@@ -23,7 +23,7 @@ use Rattle.pz_rules.specs.Openable.{IsProcessClass}
 use Rattle.pz_rules.specs.Opening.{steps_opened, in_frame, called_body, by_body, entered_to, depth_of, enter_in, enter, opened}
 use Rattle.pz_rules.specs.CallLaws.{plain_call, OpensCalls, IsCalled, CallsUnfold}
 use Rattle.pz_env_same.specs.SameRules.{home_in}
-use Rattle.pz_env_joined.proofs.Numbered.{has_body, some_method}
+use Rattle.pz_env_joined.proofs.Numbered.{has_body}
 
 abbrev Enter : Type 0
 Enter = Step → StateView → Process
@@ -51,30 +51,6 @@ module _ (h g : Home) (same : (x : Id) → called_body h x ≡ called_body g x) 
   entered_same (suc k) (assignment pos x e) s = refl
   entered_same (suc k) (value pos e) s = refl
 
-abbrev is_call : Step → Bool
-is_call (call pos x args results) = true
-is_call _ = false
-
--- what is no call stands as it is
-other : (h : Home) (k : ℕ) (r : Step) (s : StateView) → is_call r ≡ false → entered_to h k r s ≡ left_by s (leaf r)
-other h zero r s is = refl
-other h (suc k) (call pos x args results) s is = cc
-other h (suc k) (skip pos) s is = refl
-other h (suc k) (delay pos e) s is = refl
-other h (suc k) (bracketed pos ts) s is = refl
-other h (suc k) (block pos es) s is = refl
-other h (suc k) (guarded pos e t) s is = refl
-other h (suc k) (parallel pos bs) s is = refl
-other h (suc k) (select pos bs) s is = refl
-other h (suc k) (conditional pos e ts rest) s is = refl
-other h (suc k) (repeated pos e ts) s is = refl
-other h (suc k) (abort pos ts t) s is = refl
-other h (suc k) (interrupt pos ts t) s is = refl
-other h (suc k) (send pos port name args after) s is = refl
-other h (suc k) (receive pos port name into condition after) s is = refl
-other h (suc k) (assignment pos x e) s is = refl
-other h (suc k) (value pos e) s is = refl
-
 -- One step deeper than there are methods, in a sound model without rounds
 
 module _ (unfolds : CallsUnfold) (h : Home) (opens : OpensCalls h) where
@@ -84,73 +60,42 @@ module _ (unfolds : CallsUnfold) (h : Home) (opens : OpensCalls h) where
   found_has : (x : Id) (locals : ℕ) (body : Steps) → Found x locals body → IsCalled h x locals body
   found_has x locals body is = record { has = has_body h.model h.class (record { name = x.name; counts = process_counts 0 0 }) (process_body locals body) is; is = is }
 
-  -- any call of a method becomes what a plain one becomes
-  as_plain : (k : ℕ) (pos : Pos) (x : Id) (args : Expressions Slot ClassId) (results : List Slot) (locals : ℕ) (body : Steps) (s : StateView) → Found x locals body
-      → entered_to h (suc k) (call pos x args results) s ≡ in_frame locals (steps_opened (entered_to h k) body) s
-  as_plain k pos x args results locals body s is = ap (λ (o : Option BodyTree). by_body o (steps_opened (entered_to h k)) (call pos x args results) s) is
-
-  -- a plain call unfolds
+  -- a call of a method unfolds
   unfolded : (pos : Pos) (x : Id) (locals : ℕ) (body : Steps) (s : StateView) → Found x locals body
       → entered_to h (depth_of h.model) (plain_call pos x) s ≡ in_frame locals (steps_opened (entered_to h (depth_of h.model)) body) s
   unfolded pos x locals body s is =
       subst (λ (e : Edition). enter_in e h (plain_call pos x) s ≡ in_frame locals (steps_opened (enter_in e h) body) s) opens.edition
       (unfolds h pos x locals body s opens (found_has x locals body is))
 
-  call_deeper : (pos : Pos) (x : Id) (args : Expressions Slot ClassId) (results : List Slot) (s : StateView) (locals : ℕ) (body : Steps) → Found x locals body
-      → entered_to h (suc (depth_of h.model)) (call pos x args results) s ≡ entered_to h (depth_of h.model) (call pos x args results) s
-  call_deeper pos x args results s locals body is =
-      let some = some_method h.model h.class (record { name = x.name; counts = process_counts 0 0 }) (found_has x locals body is).has in
-      as_plain (depth_of h.model) pos x args results locals body s is
-      ∙ sym (unfolded pos x locals body s is)
-      ∙ ap (λ (d : ℕ). entered_to h d (plain_call pos x) s) some.1
-      ∙ as_plain some.0 pos x none [] locals body s is
-      ∙ sym (as_plain some.0 pos x args results locals body s is)
-      ∙ sym (ap (λ (d : ℕ). entered_to h d (call pos x args results) s) some.1)
+  -- and of what is no method of a process class it stands as it is
+  no_method : (k : ℕ) (pos : Pos) (x : Id) (s : StateView) (o : Option BodyTree) → called_body h x ≡ o
+      → ((locals : ℕ) (body : Steps) → o ≡ Some (process_body locals body) → ⊥) → entered_to h k (plain_call pos x) s ≡ left_by s (leaf (plain_call pos x))
+  no_method zero pos x s o is never = refl
+  no_method (suc k) pos x s None is never = ap (λ (o : Option BodyTree). by_body o (steps_opened (entered_to h k)) (plain_call pos x) s) is
+  no_method (suc k) pos x s (Some (data_body locals e)) is never = ap (λ (o : Option BodyTree). by_body o (steps_opened (entered_to h k)) (plain_call pos x) s) is
+  no_method (suc k) pos x s (Some (process_body locals body)) is never = absurd (never locals body refl)
 
-  -- a call of what is no method of a process class stands as it is
-  no_method : (k : ℕ) (pos : Pos) (x : Id) (args : Expressions Slot ClassId) (results : List Slot) (s : StateView) (o : Option BodyTree) → called_body h x ≡ o
-      → ((locals : ℕ) (body : Steps) → o ≡ Some (process_body locals body) → ⊥) → entered_to h k (call pos x args results) s ≡ left_by s (leaf (call pos x args results))
-  no_method zero pos x args results s o is never = refl
-  no_method (suc k) pos x args results s None is never = ap (λ (o : Option BodyTree). by_body o (steps_opened (entered_to h k)) (call pos x args results) s) is
-  no_method (suc k) pos x args results s (Some (data_body locals e)) is never = ap (λ (o : Option BodyTree). by_body o (steps_opened (entered_to h k)) (call pos x args results) s) is
-  no_method (suc k) pos x args results s (Some (process_body locals body)) is never = absurd (never locals body refl)
-
-  still : (r : Step) (s : StateView) → is_call r ≡ false → entered_to h (suc (depth_of h.model)) r s ≡ entered_to h (depth_of h.model) r s
-  still r s is = other h (suc (depth_of h.model)) r s is ∙ sym (other h (depth_of h.model) r s is)
-
-  pub deeper : (r : Step) (s : StateView) → entered_to h (suc (depth_of h.model)) r s ≡ entered_to h (depth_of h.model) r s
-  deeper (call pos x args results) s = by (called_body h x) refl
+  pub deeper : (pos : Pos) (x : Id) (s : StateView) → entered_to h (suc (depth_of h.model)) (plain_call pos x) s ≡ entered_to h (depth_of h.model) (plain_call pos x) s
+  deeper pos x s = by (called_body h x) refl
     where
-      by : (o : Option BodyTree) → called_body h x ≡ o → entered_to h (suc (depth_of h.model)) (call pos x args results) s ≡ entered_to h (depth_of h.model) (call pos x args results) s
-      by None is = no_method (suc (depth_of h.model)) pos x args results s None is (λ locals body eq. cc) ∙ sym (no_method (depth_of h.model) pos x args results s None is (λ locals body eq. cc))
+      by : (o : Option BodyTree) → called_body h x ≡ o → entered_to h (suc (depth_of h.model)) (plain_call pos x) s ≡ entered_to h (depth_of h.model) (plain_call pos x) s
+      by None is = no_method (suc (depth_of h.model)) pos x s None is (λ locals body eq. cc) ∙ sym (no_method (depth_of h.model) pos x s None is (λ locals body eq. cc))
       by (Some (data_body locals e)) is =
-          no_method (suc (depth_of h.model)) pos x args results s (Some (data_body locals e)) is (λ l body eq. cc)
-          ∙ sym (no_method (depth_of h.model) pos x args results s (Some (data_body locals e)) is (λ l body eq. cc))
-      by (Some (process_body locals body)) is = call_deeper pos x args results s locals body is
-  deeper (skip pos) s = still (skip pos) s refl
-  deeper (delay pos e) s = still (delay pos e) s refl
-  deeper (bracketed pos ts) s = still (bracketed pos ts) s refl
-  deeper (block pos es) s = still (block pos es) s refl
-  deeper (guarded pos e t) s = still (guarded pos e t) s refl
-  deeper (parallel pos bs) s = still (parallel pos bs) s refl
-  deeper (select pos bs) s = still (select pos bs) s refl
-  deeper (conditional pos e ts rest) s = still (conditional pos e ts rest) s refl
-  deeper (repeated pos e ts) s = still (repeated pos e ts) s refl
-  deeper (abort pos ts t) s = still (abort pos ts t) s refl
-  deeper (interrupt pos ts t) s = still (interrupt pos ts t) s refl
-  deeper (send pos port name args after) s = still (send pos port name args after) s refl
-  deeper (receive pos port name into condition after) s = still (receive pos port name into condition after) s refl
-  deeper (assignment pos x e) s = still (assignment pos x e) s refl
-  deeper (value pos e) s = still (value pos e) s refl
+          no_method (suc (depth_of h.model)) pos x s (Some (data_body locals e)) is (λ l body eq. cc)
+          ∙ sym (no_method (depth_of h.model) pos x s (Some (data_body locals e)) is (λ l body eq. cc))
+      by (Some (process_body locals body)) is =
+          ap (λ (o : Option BodyTree). by_body o (steps_opened (entered_to h (depth_of h.model))) (plain_call pos x) s) is
+          ∙ sym (unfolded pos x locals body s is)
 
--- What a call becomes in what has grown out of a sound model, with a method more or with none
+-- What a plain call becomes in what has grown out of a sound model, with a method more or with none
 pub calls_same : CallsUnfold → (m n : ModelTree) → IsSound m → Opens m → (class : ℕ) → IsProcessClass m class → ((x : Id) → called_body (home_in m Two class) x ≡ called_body (home_in n Two class) x)
-    → (depth_of n ≡ depth_of m) ⊎ (depth_of n ≡ suc (depth_of m)) → (edition : Edition) (r : Step) (s : StateView) → enter (home_in m edition class) r s ≡ enter (home_in n edition class) r s
-calls_same unfolds m n sound opens class process same depths One r s = refl
-calls_same unfolds m n sound opens class process same (inl as_deep) Two r s =
-    entered_same (home_in m Two class) (home_in n Two class) same (depth_of m) r s
-    ∙ ap (λ (d : ℕ). entered_to (home_in n Two class) d r s) (sym as_deep)
-calls_same unfolds m n sound opens class process same (inr one_more) Two r s =
-    sym (deeper unfolds (home_in m Two class) (record { edition = refl; sound = sound; process = process; rounds = opens.rounds }) r s)
-    ∙ entered_same (home_in m Two class) (home_in n Two class) same (suc (depth_of m)) r s
-    ∙ ap (λ (d : ℕ). entered_to (home_in n Two class) d r s) (sym one_more)
+    → (depth_of n ≡ depth_of m) ⊎ (depth_of n ≡ suc (depth_of m)) → (edition : Edition) (pos : Pos) (x : Id) (s : StateView)
+    → enter (home_in m edition class) (plain_call pos x) s ≡ enter (home_in n edition class) (plain_call pos x) s
+calls_same unfolds m n sound opens class process same depths One pos x s = refl
+calls_same unfolds m n sound opens class process same (inl as_deep) Two pos x s =
+    entered_same (home_in m Two class) (home_in n Two class) same (depth_of m) (plain_call pos x) s
+    ∙ ap (λ (d : ℕ). entered_to (home_in n Two class) d (plain_call pos x) s) (sym as_deep)
+calls_same unfolds m n sound opens class process same (inr one_more) Two pos x s =
+    sym (deeper unfolds (home_in m Two class) (record { edition = refl; sound = sound; process = process; rounds = opens.rounds }) pos x s)
+    ∙ entered_same (home_in m Two class) (home_in n Two class) same (suc (depth_of m)) (plain_call pos x) s
+    ∙ ap (λ (d : ℕ). entered_to (home_in n Two class) d (plain_call pos x) s) (sym one_more)

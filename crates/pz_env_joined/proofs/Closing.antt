@@ -24,7 +24,7 @@ use Rattle.pz_env_tree.specs.ClosedTree.{environment, channel_of, closed_system,
 use Rattle.pz_env_joined.proofs.Alike.{Alike, same, systems, AreRoots, no_more, one_more, Grown, grown_so, of_alike}
 use Rattle.pz_env_joined.proofs.Places.{got_first, system_declared}
 
-append_nil : {A : Type 0} (xs : List A) → xs ≡ xs ++ []
+pub append_nil : {A : Type 0} (xs : List A) → xs ≡ xs ++ []
 append_nil [] = refl
 append_nil {A} (x ∷ xs) = ap (λ (ys : List A). x ∷ ys) (append_nil xs)
 

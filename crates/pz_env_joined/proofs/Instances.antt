@@ -81,17 +81,21 @@ module _ (m n : ModelTree) (grown : Grown m n) where
       ∙ ap (λ (b : Bool). if b then class n name else None) has
       ∙ grown.classes name k at.class
 
-  inner_instances : (d e : DeclTree) → is_system d ≡ false → Alike d e → instances d ≡ instances e
-  inner_instances _ _ inner (same d) = refl
-  inner_instances _ _ inner (systems s t) = cc
+  inner_stays : (d e : DeclTree) → is_system d ≡ false → Alike d e → d ≡ e
+  inner_stays _ _ inner (same d) = refl
+  inner_stays _ _ inner (systems s t) = cc
 
-  -- a class that is no system has the instances that it had
-  pub instances_same : (c : ℕ) → IsInner m c → instances_in m c ≡ instances_in n c
-  instances_same c at =
+  -- a class that is no system has the parts that it had
+  pub inner_same : {A : Type 0} (part : DeclTree → List A) (c : ℕ) → IsInner m c → option_map_or part (declaration m c) [] ≡ option_map_or part (declaration n c) []
+  inner_same part c at =
       let now = became m n grown c at.decl at.is in
-      ap (λ (o : Option DeclTree). option_map_or instances o []) at.is
-      ∙ inner_instances at.decl now.decl at.inner now.like
-      ∙ sym (ap (λ (o : Option DeclTree). option_map_or instances o []) now.there)
+      ap (λ (o : Option DeclTree). option_map_or part o []) at.is
+      ∙ ap part (inner_stays at.decl now.decl at.inner now.like)
+      ∙ sym (ap (λ (o : Option DeclTree). option_map_or part o []) now.there)
+
+  -- its instances
+  pub instances_same : (c : ℕ) → IsInner m c → instances_in m c ≡ instances_in n c
+  instances_same c at = inner_same instances c at
 
 -- the class of an instance of a sound model
 module _ (m : ModelTree) (fits : SystemFits m) where

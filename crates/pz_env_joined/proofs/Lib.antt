@@ -13,3 +13,5 @@ pub mod Numbered
 pub mod Calls
 pub mod Firsts
 pub mod Closing
+pub mod Accepted
+pub mod Levels

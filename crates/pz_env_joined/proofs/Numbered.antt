@@ -1,18 +1,16 @@
 -- The method that a name and its counts mean has a number where it has a body, and the body stands there.
 use Rattle.std.proofs.Common.{◌≡◌, refl, sym, ap, ◌∙◌, ℕ, zero, suc, ◌+◌, ◌-◌, Bool, true, false, List, [], ◌∷◌, ◌++◌, map, length, take, Option, Some, None, slice_get, arith}
 use Rattle.std.specs.Option.{option_map, option_map_or, option_or, unwrap_or}
-use Rattle.std.specs.List.{sum_by, flat_map}
-use Rattle.std.proofs.lemmas.List.{length-map, length-append}
+use Rattle.std.specs.List.{sum_by}
+use Rattle.std.proofs.lemmas.List.{length-map}
 use Rattle.std.proofs.lemmas.List.Sums.{sum_by-cons}
-use Rattle.std.proofs.lemmas.Option.{slice_get_within}
-use Rattle.pz_syntax.specs.Classes.{DataMethodTree, DeclTree, data_class, process_class, cluster_class, system, ModelTree}
+use Rattle.pz_syntax.specs.Classes.{DeclTree, data_class, process_class, cluster_class, system, ModelTree}
 use Rattle.pz_classes.specs.declared.method_id.MethodId.{MethodId}
 use Rattle.pz_classes.specs.Numbers.{declaration}
 use Rattle.pz_classes.specs.Ancestors.{ancestors}
 use Rattle.pz_classes.specs.Methods.{Signature, signatures, data_signature, process_signature, same_signature, methods_before, first_with, method_id, own_method, nearest, method_with}
 use Rattle.pz_classes.specs.Bodies.{BodyTree, data_scope, process_scope, data_body_in, process_body_in, own_bodies, bodies_from, bodies}
 use Rattle.pz_classes.specs.MethodBodies.{Method, data_method_in, process_method_in, own_methods, first_body, own_body, body_with, HasBody}
-use Rattle.pz_classes_openings.specs.Methods.{declared_methods, methods}
 use Rattle.pz_env_joined.proofs.Places.{got_first}
 
 map_twice : {A B C : Type 0} (f : B → C) (g : A → B) (h : A → C) → ((x : A) → f (g x) ≡ h x) → (xs : List A) → map f (map g xs) ≡ map h xs
@@ -107,25 +105,3 @@ module _ (m : ModelTree) where
       by : (o : Option MethodId) (p : Option BodyTree) → Stands (bodies m) o p → method_with m c s ≡ o → p ≡ Some b → body_with m c s ≡ p → HasBody m c s
       by _ _ neither found has eq = cc
       by _ _ (both k a at) found has eq = record { number = method_id k; found = found; body = a; is = eq; there = at }
-
-  -- as many methods are counted as bodies
-  declared_as_many : (c : ℕ) (d : DeclTree) → length (declared_methods d) ≡ length (own_bodies m c d)
-  declared_as_many c (data_class d) = length-map (unwrap_or d.methods []) (λ (r : DataMethodTree). None) ∙ sym (length-map (unwrap_or d.methods []) (data_body_in (data_scope m c)))
-  declared_as_many c (process_class d) = length-map (unwrap_or d.methods []) Some ∙ sym (length-map (unwrap_or d.methods []) (process_body_in (process_scope m c)))
-  declared_as_many c (cluster_class d) = refl
-  declared_as_many c (system d) = refl
-
-  all_as_many : (n : ℕ) (ds : List DeclTree) → length (flat_map declared_methods ds) ≡ length (bodies_from m n ds)
-  all_as_many n [] = refl
-  all_as_many n (d ∷ ds) =
-      length-append (declared_methods d) (flat_map declared_methods ds)
-      ∙ ap (λ (k : ℕ). k + length (flat_map declared_methods ds)) (declared_as_many n d)
-      ∙ ap (λ (k : ℕ). length (own_bodies m n d) + k) (all_as_many (suc n) ds)
-      ∙ sym (length-append (own_bodies m n d) (bodies_from m (suc n) ds))
-
-  pub some_method : (c : ℕ) (s : Signature) → HasBody m c s → (k : ℕ) × (length (methods m) ≡ suc k)
-  some_method c s has = by (length (methods m)) refl
-    where
-      by : (k : ℕ) → length (methods m) ≡ k → (j : ℕ) × (length (methods m) ≡ suc j)
-      by zero is = let low = slice_get_within (bodies m) has.number.0 has.body has.there in let same = all_as_many 1 m.decls in absurd (omega (arith, low, same, is))
-      by (suc k) is = (k, is)
