@@ -15,3 +15,4 @@ pub mod Firsts
 pub mod Closing
 pub mod Accepted
 pub mod Levels
+pub mod Rules
