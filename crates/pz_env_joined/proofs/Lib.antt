@@ -16,3 +16,5 @@ pub mod Closing
 pub mod Accepted
 pub mod Levels
 pub mod Rules
+pub mod EnvironmentPorts
+pub mod EnvironmentBody
