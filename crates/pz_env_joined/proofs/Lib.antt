@@ -18,3 +18,5 @@ pub mod Levels
 pub mod Rules
 pub mod EnvironmentPorts
 pub mod EnvironmentBody
+pub mod EnvironmentWires
+pub mod Environment

@@ -17,7 +17,7 @@ map_twice : {A B C : Type 0} (f : B → C) (g : A → B) (h : A → C) → ((x :
 map_twice f g h same [] = refl
 map_twice f g h same (x ∷ xs) = rw (same x, map_twice f g h same xs) refl
 
-got_later : {A : Type 0} (xs ys : List A) (k : ℕ) → slice_get (xs ++ ys) (length xs + k) ≡ slice_get ys k
+pub got_later : {A : Type 0} (xs ys : List A) (k : ℕ) → slice_get (xs ++ ys) (length xs + k) ≡ slice_get ys k
 got_later [] ys k = let eq : 0 + k ≡ k = omega arith in ap (slice_get ys) eq
 got_later (x ∷ xs) ys k = let eq : suc (length xs) + k ≡ suc (length xs + k) = omega arith in rw eq (got_later xs ys k)
 
