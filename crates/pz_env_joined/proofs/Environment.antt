@@ -1,5 +1,5 @@
 -- The closed model has the environment of the driven system.
-use Rattle.std.proofs.Common.{◌≡◌, refl, sym, ap, ◌∙◌, ℕ, zero, suc, ◌<◌, ◌^◌, Bool, true, false, List, [], ◌∷◌, ◌++◌, map, length, Option, Some, None, slice_get, arith}
+use Rattle.std.proofs.Common.{◌≡◌, refl, sym, ap, ◌∙◌, subst, ℕ, zero, suc, ◌<◌, ◌^◌, Bool, true, false, List, [], ◌∷◌, ◌++◌, map, length, Option, Some, None, slice_get, arith}
 use Rattle.std.specs.Prelude.{if◌then◌else◌, codes}
 use Rattle.std.specs.Fmt.{decimal}
 use Rattle.std.specs.List.{AllByRecursion, flat_map}
@@ -97,8 +97,76 @@ module _ (laws : Laws) (m : ModelTree) (script : List Entry) (limits : Limits) (
   abbrev n : ModelTree
   n = closed_by m lines
 
-  abbrev rules : SameRules (joined m lines) (closed_by m lines)
+  rules : SameRules (joined m lines) (closed_by m lines)
   rules = same_rules laws m script fits sound opens accepted
 
-  abbrev without : _
-  without = no_env laws m script fits sound opens accepted
+  abbrev place : Address
+  place = env_place m fits lines (no_env laws m script fits sound opens accepted)
+
+  behind : processes n ≡ processes j ++ place ∷ []
+  behind = (one_more m script fits accepted).processes
+
+  stands : (c : Channel) (w : ℕ) → slice_get (wires j) w ≡ Some c → Stands m c.place
+  stands c w at =
+      let all : AllByRecursion (λ d. Stands m d.place) (wires j) = in_levels (Stands m) j (levels j) (subst (AllByRecursion (Stands m)) (levels_joined m fits lines) (levels_stand m fits lines)) in
+      at_place (λ d. Stands m d.place) (wires j) w c all at
+
+  -- its one variable, which nothing is given to
+  values_are : values_at n place ≡ Nil ∷ []
+  values_are =
+      ap (λ (c : ℕ). map (parameter_at n place) (spelled (variables n c))) (env_class_at m fits lines (no_env laws m script fits sound opens accepted))
+      ∙ ap (λ (vs : List Id). map (parameter_at n place) (spelled vs)) (env_variables m lines)
+      ∙ ap (λ (o : Option Instance). option_map_or (λ x. given_value (parameter_at n []) (unwrap_or x.given []) variable_name) o Nil ∷ []) (env_instance m fits lines (no_env laws m script fits sound opens accepted))
+
+  -- Names in lines
+
+  path_is : (i : ℕ) → i < length (processes j) → path_of n i ≡ path_of j i
+  path_is i low =
+      let at = some_there (processes j) i low in
+      ap (λ (o : Option Address). option_map_or (path n) o []) (ap (λ (ps : List Address). slice_get ps i) behind ∙ still_there (processes j) (place ∷ []) i at.0 at.1)
+      ∙ sym (rules.each i at.0 at.1).path
+      ∙ sym (ap (λ (o : Option Address). option_map_or (path j) o []) at.1)
+
+  own_path : path_of n (length (processes j)) ≡ codes "env"
+  own_path =
+      ap (λ (o : Option Address). option_map_or (path n) o []) (ap (λ (ps : List Address). slice_get ps (length (processes j))) behind ∙ last_there (processes j) place)
+      ∙ ap (λ (o : Option Instance). option_map_or (λ x. x.name.name) o []) (env_instance m fits lines (no_env laws m script fits sound opens accepted))
+
+  wire_name_is : (c : Channel) → Stands m c.place → wire_name n c ≡ wire_name j c
+  wire_name_is c s =
+      ap (λ (front : List ℕ). front ++ (codes "#" ++ decimal (suc c.number)))
+      (sym (path_same m n fits (grown_closed m lines) (environment ∷ []) (closed_instances m lines fits) c.place s)
+      ∙ path_same m j fits (grown_joined m lines) [] (joined_instances m lines fits) c.place s)
+
+  wire_is : (w : ℕ) → wire_of n w ≡ wire_of j w
+  wire_is w =
+      ap (λ (cs : List Channel). option_map_or (wire_name n) (slice_get cs w) []) (sym (one_more m script fits accepted).wires)
+      ∙ by (slice_get (wires j) w) refl
+    where
+      by : (o : Option Channel) → slice_get (wires j) w ≡ o → option_map_or (wire_name n) o [] ≡ option_map_or (wire_name j) o []
+      by None is = refl
+      by (Some c) is = wire_name_is c (stands c w is)
+
+  pub has_environment : HasEnvironment (driving m script limits) (closed_by m (lines_of script))
+  has_environment =
+      let without = no_env laws m script fits sound opens accepted in
+      let class = env_class_at m fits lines without in
+      let methods_there = closed_methods m lines in
+      record {
+        place = place;
+        one_more = behind;
+        values = values_are;
+        pos = first_place;
+        method = named method_name;
+        starts = ap (init n) class ∙ env_init m script;
+        port = end_number lines;
+        body = ap (λ (c : ℕ). process_method_body n c method_name 0 0) class ∙ env_body m script few;
+        some_method = omega (arith, methods_there);
+        wires = λ x w among.
+            (to_driven m script fits accepted few without limits (processes j) behind (one_more m script fits accepted).wires x w among,
+            to_closed m script fits accepted few without limits (processes j) behind (one_more m script fits accepted).wires x w);
+        paths = path_is;
+        path = own_path;
+        wire_names = wire_is;
+        classes = closed_names m lines ∙ ap (λ (names : List (List ℕ)). names ++ codes "ScriptEnv" ∷ []) (sym (joined_names m lines));
+      }

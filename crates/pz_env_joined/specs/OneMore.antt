@@ -1,5 +1,5 @@
 -- What the closed model has: all that the model with the further channels has, and one process more.
-use Rattle.std.specs.Prelude.{◌≡◌, ℕ, suc, List, [], ◌∷◌, ◌++◌, length, Some, ¬◌}
+use Rattle.std.specs.Prelude.{◌≡◌, ℕ, suc, List, [], ◌∷◌, ◌++◌, length, Some}
 use Rattle.pz_syntax.specs.Classes.{ModelTree}
 use Rattle.pz_classes.specs.Numbers.{class}
 use Rattle.pz_classes.specs.Tables.{class_names}
