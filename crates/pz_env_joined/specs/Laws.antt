@@ -15,13 +15,15 @@ use Rattle.pz_env_joined.specs.Environments.{HasEnvironment}
 
 -- The closed model has the rules of the model with the further channels, and one process more.
 abbrev pub ClosedHasSameRules : Type 0
-ClosedHasSameRules = (m : ModelTree) (script : List Entry) → IsSound m → Opens m → IsAccepted m script → SameRules (joined m (lines_of script)) (closed_tree m script)
+ClosedHasSameRules = (m : ModelTree) (script : List Entry) → IsSound m → Opens m → IsAccepted m script
+    → SameRules (joined m (lines_of script)) (closed_tree m script)
 
 -- Its classes, processes and wires are those that were there, and behind them those of the environment.
 abbrev pub ClosedHasOneMore : Type 0
-ClosedHasOneMore = (m : ModelTree) (script : List Entry) → IsSound m → IsAccepted m script → HasOneMore m (lines_of script)
+ClosedHasOneMore = (m : ModelTree) (script : List Entry) → IsSound m → IsAccepted m script
+    → HasOneMore m (lines_of script)
 
 -- That process is the environment of the driven system, where 64 bits number the lines of the script.
 abbrev pub ClosedHasEnvironment : Type 0
-ClosedHasEnvironment = (m : ModelTree) (script : List Entry) (limits : Limits) → IsSound m → Opens m → IsAccepted m script → length script < 2 ^ 64
-    → HasEnvironment (driving m script limits) (closed_tree m script)
+ClosedHasEnvironment = (m : ModelTree) (script : List Entry) (limits : Limits) → IsSound m → Opens m → IsAccepted m script
+    → length script < 2 ^ 64 → HasEnvironment (driving m script limits) (closed_tree m script)
