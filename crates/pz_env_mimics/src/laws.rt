@@ -1,0 +1,2 @@
+// Laws of driven systems and of the models that stand for them, each the contract of a function that does
+// nothing.
