@@ -1,0 +1,6 @@
+pub mod Literals
+pub mod PlainValues
+pub mod Environment
+pub mod Speaking
+pub mod Doing
+pub mod Moving
