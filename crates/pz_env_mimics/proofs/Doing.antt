@@ -27,26 +27,27 @@ use Rattle.pz_env_mimics.proofs.Speaking.{around_cannot, around_never_sends, aro
 
 module _ (port : Line → ℕ) (Fit : Line → Type 0) where
   -- which part of the environment an active part is
-  pub data PartIs : Doing → Place → ℕ → Term → Type 0 where
-    around_it : (doing : Doing) (place : Place) (g : ℕ) (part : Term) → IsAround part → PartIs doing place g part
-    ended : (place : Place) (g : ℕ) → PartIs over place g done
-    delayed : (left : ℕ) (x : Line) (rest : List Line) (t : Term) → Fit x → All Fit rest → IsWaiting x left t → PartIs (waits left x rest) (0 ∷ 0 ∷ []) 1 t
-    exchanges : (x : Line) (rest : List Line) → Fit x → All Fit rest → PartIs (offers x rest) (place_of (offers x rest)) 1 (leaf (exchange (port x) x x.entry.transfer))
+  pub data PartIs : Doing → Term → Place → ℕ → Term → Type 0 where
+    around_it : (doing : Doing) (whole : Term) (place : Place) (g : ℕ) (part : Term) → IsAround part → PartIs doing whole place g part
+    ended : (whole : Term) (place : Place) (g : ℕ) → PartIs over whole place g done
+    delayed : (left : ℕ) (x : Line) (rest : List Line) (t : Term) → Fit x → All Fit rest → IsWaiting x left t → PartIs (waits left x rest) (called (sequence t (behind port x rest))) (0 ∷ 0 ∷ []) 1 t
+    exchanges : (x : Line) (rest : List Line) → Fit x → All Fit rest
+        → PartIs (offers x rest) (called (offering port x rest)) (place_of (offers x rest)) 1 (leaf (exchange (port x) x x.entry.transfer))
 
-  pub part_is : (a : Context) (doing : Doing) (whole : Term) (place : Place) (g : ℕ) (part : Term) → IsDoing port Fit doing whole → IsActive a whole place g part → PartIs doing place g part
+  pub part_is : (a : Context) (doing : Doing) (whole : Term) (place : Place) (g : ℕ) (part : Term) → IsDoing port Fit doing whole → IsActive a whole place g part → PartIs doing whole place g part
   part_is a _ _ place g part finished act =
-      subst (λ (t : Term). PartIs over place g t) (sym (part_done a place g part act)) (ended place g)
+      subst (λ (t : Term). PartIs over done place g t) (sym (part_done a place g part act)) (ended done place g)
   part_is a _ _ place g part (waiting_for left x rest t fit fits is) act =
       by place g part (part_waiting a port x rest left t is place g part act)
     where
-      by : (place : Place) (g : ℕ) (part : Term) → IsPart (0 ∷ 0 ∷ []) t place g part → PartIs (waits left x rest) place g part
+      by : (place : Place) (g : ℕ) (part : Term) → IsPart (0 ∷ 0 ∷ []) t place g part → PartIs (waits left x rest) (called (sequence t (behind port x rest))) place g part
       by _ _ _ itself = delayed left x rest t fit fits is
-      by _ _ _ (outer place g part around) = around_it (waits left x rest) place g part around
+      by _ _ _ (outer place g part around) = around_it (waits left x rest) (called (sequence t (behind port x rest))) place g part around
   part_is a _ _ place g part (offering_it x rest fit fits) act = by place g part (part_offering a port x rest place g part act)
     where
-      by : (place : Place) (g : ℕ) (part : Term) → IsPart (place_of (offers x rest)) (leaf (exchange (port x) x x.entry.transfer)) place g part → PartIs (offers x rest) place g part
+      by : (place : Place) (g : ℕ) (part : Term) → IsPart (place_of (offers x rest)) (leaf (exchange (port x) x x.entry.transfer)) place g part → PartIs (offers x rest) (called (offering port x rest)) place g part
       by _ _ _ itself = exchanges x rest fit fits
-      by _ _ _ (outer place g part around) = around_it (offers x rest) place g part around
+      by _ _ _ (outer place g part around) = around_it (offers x rest) (called (offering port x rest)) place g part around
 
 -- it waits, and nothing is left of it
 pub record Expires (doing : Doing) (place : Place) (kind : Kind) (at : Pos) : Type 0 where
@@ -111,24 +112,24 @@ module _ (a : Context) (paid : 1 ≤ a.setting.limits.units) (deep : 1 ≤ a.set
 
   -- What it says is what it does
 
-  pub can_only : (doing : Doing) (place : Place) (g : ℕ) (part : Term) (kind : Kind) (at : Pos) → PartIs port Fit doing place g part → Can a g part kind at → Expires doing place kind at
-  can_only _ _ _ _ kind at (around_it doing place g part around) can = absurd (around_cannot a g part kind at around can)
-  can_only _ _ _ _ kind at (ended place g) can = absurd (done_cannot a g kind at can)
-  can_only _ _ _ _ kind at (delayed left x rest t fit fits is) can =
+  pub can_only : (doing : Doing) (whole : Term) (place : Place) (g : ℕ) (part : Term) (kind : Kind) (at : Pos) → PartIs port Fit doing whole place g part → Can a g part kind at → Expires doing place kind at
+  can_only _ _ _ _ _ kind at (around_it doing whole place g part around) can = absurd (around_cannot a g part kind at around can)
+  can_only _ _ _ _ _ kind at (ended whole place g) can = absurd (done_cannot a g kind at can)
+  can_only _ _ _ _ _ kind at (delayed left x rest t fit fits is) can =
       let h = speaking.waiting_can a paid deep 1 x left t kind at (plain x fit) is can in
       record { line = x; rest = rest; is = ap (λ (n : ℕ). waits n x rest) h.0; there = refl; expires = h.1; at_it = h.2 }
-  can_only _ _ _ _ kind at (exchanges x rest fit fits) can =
+  can_only _ _ _ _ _ kind at (exchanges x rest fit fits) can =
       absurd (speaking.exchange_cannot a paid deep 1 (port x) x x.entry.transfer kind at can)
 
-  pub sends_only : (doing : Doing) (place : Place) (g : ℕ) (part : Term) (at : Pos) (number : ℕ) (message : List ℕ) (parcel : ParcelView) → PartIs port Fit doing place g part → Sends a g part at number message parcel
+  pub sends_only : (doing : Doing) (whole : Term) (place : Place) (g : ℕ) (part : Term) (at : Pos) (number : ℕ) (message : List ℕ) (parcel : ParcelView) → PartIs port Fit doing whole place g part → Sends a g part at number message parcel
       → GivesOut port Fit a.setting.limits.units doing place at number message parcel
-  sends_only _ _ _ _ at number message parcel (around_it doing place g part around) is =
+  sends_only _ _ _ _ _ at number message parcel (around_it doing whole place g part around) is =
       absurd (around_never_sends a g part at number message parcel around is)
-  sends_only _ _ _ _ at number message parcel (ended place g) is =
+  sends_only _ _ _ _ _ at number message parcel (ended whole place g) is =
       absurd (done_never_sends a g at number message parcel is)
-  sends_only _ _ _ _ at number message parcel (delayed left x rest t fit fits waits) is =
+  sends_only _ _ _ _ _ at number message parcel (delayed left x rest t fit fits waits) is =
       absurd (speaking.waiting_never_sends a paid deep 1 x left t at number message parcel waits is)
-  sends_only _ _ _ _ at number message parcel (exchanges x rest fit fits) is =
+  sends_only _ _ _ _ _ at number message parcel (exchanges x rest fit fits) is =
       let h = speaking.exchange_says a paid deep 1 (port x) x x.entry.transfer at number message parcel (constants x fit) is in
       record {
         line = x;
@@ -145,15 +146,15 @@ module _ (a : Context) (paid : 1 ≤ a.setting.limits.units) (deep : 1 ≤ a.set
         parcel_is = h.parcel_is;
       }
 
-  pub receives_only : (doing : Doing) (place : Place) (g : ℕ) (part : Term) (at : Pos) (number : ℕ) (message : List ℕ) (count : ℕ) → PartIs port Fit doing place g part → Receives part at number message count
+  pub receives_only : (doing : Doing) (whole : Term) (place : Place) (g : ℕ) (part : Term) (at : Pos) (number : ℕ) (message : List ℕ) (count : ℕ) → PartIs port Fit doing whole place g part → Receives part at number message count
       → TakesIn port Fit doing place at number message count
-  receives_only _ _ _ _ at number message count (around_it doing place g part around) is =
+  receives_only _ _ _ _ _ at number message count (around_it doing whole place g part around) is =
       absurd (around_never_receives part at number message count around is)
-  receives_only _ _ _ _ at number message count (ended place g) is =
+  receives_only _ _ _ _ _ at number message count (ended whole place g) is =
       absurd (done_never_receives at number message count is)
-  receives_only _ _ _ _ at number message count (delayed left x rest t fit fits waits) is =
+  receives_only _ _ _ _ _ at number message count (delayed left x rest t fit fits waits) is =
       absurd (speaking.waiting_never_receives a paid deep x left t at number message count waits is)
-  receives_only _ _ _ _ at number message count (exchanges x rest fit fits) is =
+  receives_only _ _ _ _ _ at number message count (exchanges x rest fit fits) is =
       let h = speaking.exchange_hears a paid deep (port x) x x.entry.transfer at number message count is in
       record {
         line = x;
@@ -167,32 +168,32 @@ module _ (a : Context) (paid : 1 ≤ a.setting.limits.units) (deep : 1 ≤ a.set
         name = h.name;
       }
 
-  pub judges_only : (doing : Doing) (place : Place) (g : ℕ) (part : Term) (parcel : ParcelView) (verdict : Result Bool Trouble) → PartIs port Fit doing place g part → Judges a g parcel part verdict → verdict ≡ Ok true
-  judges_only _ _ _ _ parcel verdict (around_it doing place g part around) is =
+  pub judges_only : (doing : Doing) (whole : Term) (place : Place) (g : ℕ) (part : Term) (parcel : ParcelView) (verdict : Result Bool Trouble) → PartIs port Fit doing whole place g part → Judges a g parcel part verdict → verdict ≡ Ok true
+  judges_only _ _ _ _ _ parcel verdict (around_it doing whole place g part around) is =
       absurd (around_never_judges a g parcel part verdict around is)
-  judges_only _ _ _ _ parcel verdict (ended place g) is = absurd (done_never_judges a g parcel verdict is)
-  judges_only _ _ _ _ parcel verdict (delayed left x rest t fit fits waits) is =
+  judges_only _ _ _ _ _ parcel verdict (ended whole place g) is = absurd (done_never_judges a g parcel verdict is)
+  judges_only _ _ _ _ _ parcel verdict (delayed left x rest t fit fits waits) is =
       absurd (speaking.waiting_never_judges a paid deep 1 x left parcel t verdict waits is)
-  judges_only _ _ _ _ parcel verdict (exchanges x rest fit fits) is =
+  judges_only _ _ _ _ _ parcel verdict (exchanges x rest fit fits) is =
       speaking.exchange_judged a paid deep 1 (port x) x x.entry.transfer parcel verdict is
 
-  pub asks_only : (doing : Doing) (place : Place) (g : ℕ) (part : Term) (trouble : Trouble) → PartIs port Fit doing place g part → Asks a g part trouble → LacksUnits a.setting.limits.units a.process doing place trouble
-  asks_only _ _ _ _ trouble (around_it doing place g part around) is =
+  pub asks_only : (doing : Doing) (whole : Term) (place : Place) (g : ℕ) (part : Term) (trouble : Trouble) → PartIs port Fit doing whole place g part → Asks a g part trouble → LacksUnits a.setting.limits.units a.process doing place trouble
+  asks_only _ _ _ _ _ trouble (around_it doing whole place g part around) is =
       absurd (around_never_asks a g part trouble around is)
-  asks_only _ _ _ _ trouble (ended place g) is = absurd (done_never_asks a g trouble is)
-  asks_only _ _ _ _ trouble (delayed left x rest t fit fits waits) is =
+  asks_only _ _ _ _ _ trouble (ended whole place g) is = absurd (done_never_asks a g trouble is)
+  asks_only _ _ _ _ _ trouble (delayed left x rest t fit fits waits) is =
       absurd (speaking.waiting_never_asks a paid deep 1 x left t trouble (plain x fit) waits is)
-  asks_only _ _ _ _ trouble (exchanges x rest fit fits) is =
+  asks_only _ _ _ _ _ trouble (exchanges x rest fit fits) is =
       let h = speaking.exchange_lacks a paid deep 1 (port x) x x.entry.transfer trouble (constants x fit) is in
       record { line = x; rest = rest; values = h.values; is = refl; there = refl; sends = h.sends; more = h.more; trouble_is = h.is }
 
-  pub delays_only : (doing : Doing) (place : Place) (g : ℕ) (part : Term) (left : ℕ) → PartIs port Fit doing place g part → Delays a g part left → HasLeft doing left
-  delays_only _ _ _ _ left (around_it doing place g part around) is =
+  pub delays_only : (doing : Doing) (whole : Term) (place : Place) (g : ℕ) (part : Term) (left : ℕ) → PartIs port Fit doing whole place g part → Delays a g part left → HasLeft doing left
+  delays_only _ _ _ _ _ left (around_it doing whole place g part around) is =
       absurd (around_never_delays a g part left around is)
-  delays_only _ _ _ _ left (ended place g) is = absurd (done_never_delays a g left is)
-  delays_only _ _ _ _ left (delayed before x rest t fit fits waiting) is =
+  delays_only _ _ _ _ _ left (ended whole place g) is = absurd (done_never_delays a g left is)
+  delays_only _ _ _ _ _ left (delayed before x rest t fit fits waiting) is =
       record { line = x; rest = rest; is = ap (λ (n : ℕ). waits n x rest) (sym (speaking.waiting_left a paid deep 1 x before t left (plain x fit) waiting is)) }
-  delays_only _ _ _ _ left (exchanges x rest fit fits) is =
+  delays_only _ _ _ _ _ left (exchanges x rest fit fits) is =
       absurd (speaking.exchange_never_delays a paid deep 1 (port x) x x.entry.transfer left is)
 
   -- What it does it says

@@ -37,10 +37,10 @@ use Rattle.pz_env_mimics.proofs.Literals.{IsConstant, number_lasts, number_only,
 use Rattle.pz_env_mimics.proofs.PlainValues.{plain_parcel, only_plain_parcel, count_of}
 use Rattle.pz_env_mimics.proofs.Environment.{IsWaiting, not_begun, begun, behind, offering, called, IsDoing, finished, waiting_for, offering_it, place_of, IsAround, IsPart, itself, outer, part_waiting, part_offering, part_done, active_offering, active_in_sequence}
 
-ok_same : {A : Type 0} (x y : A) → Ok {T = A} {E = Trouble} x ≡ Ok y → x ≡ y
+pub ok_same : {A : Type 0} (x y : A) → Ok {T = A} {E = Trouble} x ≡ Ok y → x ≡ y
 ok_same x y e = cc
 
-ok_apart : {A : Type 0} (x : A) (t : Trouble) → Ok {T = A} {E = Trouble} x ≡ Err t → ⊥
+pub ok_apart : {A : Type 0} (x : A) (t : Trouble) → Ok {T = A} {E = Trouble} x ≡ Err t → ⊥
 ok_apart x t e = cc
 
 -- What is around another term does nothing of itself
@@ -97,7 +97,7 @@ done_never_delays a g left is = elim is [ ]
 
 -- The context of the environment, with enough for a number
 module _ (a : Context) (paid : 1 ≤ a.setting.limits.units) (deep : 1 ≤ a.setting.limits.depth) where
-  plain_number : (f : ℕ) (x : Line) → IsPlain x → Lasts a f (at_line x) (expression.literal (at_line x) (literal.Int x.entry.wait)) (Ok (wait_of x.entry))
+  pub plain_number : (f : ℕ) (x : Line) → IsPlain x → Lasts a f (at_line x) (expression.literal (at_line x) (literal.Int x.entry.wait)) (Ok (wait_of x.entry))
   plain_number f x plain =
       subst (λ (n : ℤ). Lasts a f (at_line x) (expression.literal (at_line x) (literal.Int n)) (Ok (wait_of x.entry))) (sym plain.wait) (number_lasts a f (at_line x) deep paid (wait_of x.entry))
 
