@@ -1,0 +1,4 @@
+pub mod SameRules
+pub mod OneMore
+pub mod Laws
+pub mod SystemLaws
