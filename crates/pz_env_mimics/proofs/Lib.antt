@@ -4,3 +4,7 @@ pub mod Environment
 pub mod Speaking
 pub mod Doing
 pub mod Moving
+pub mod Matching
+pub mod Known
+pub mod Mimics
+pub mod Offers
