@@ -8,3 +8,4 @@ pub mod Matching
 pub mod Known
 pub mod Mimics
 pub mod Offers
+pub mod Moments

@@ -124,7 +124,7 @@ module _ (known : Known) (g : Driving) (n : ModelTree) (closes : Closes g n) (d 
       }
 
   -- the one end of the environment that says something
-  end_is : (at : End) → at.process ≡ env → at.place ≡ here → env_there ≡ at
+  pub end_is : (at : End) → at.process ≡ env → at.place ≡ here → env_there ≡ at
   end_is at p q =
       sym (ap (λ (k : ℕ). let e : End = record { process = k; place = at.place } in e) p ∙ ap (λ (k : Place). let e : End = record { process = env; place = k } in e) q)
 
