@@ -9,3 +9,4 @@ pub mod Known
 pub mod Mimics
 pub mod Offers
 pub mod Moments
+pub mod Steps
