@@ -10,3 +10,5 @@ pub mod Mimics
 pub mod Offers
 pub mod Moments
 pub mod Steps
+pub mod Starts
+pub mod Reaching

@@ -2,6 +2,7 @@
 use Rattle.std.proofs.Common.{◌≡◌, ◌<◌, ◌⊎◌, inl, inr, ℕ, zero, suc, List, [], ◌∷◌, length, Some, All, AllPairs, Contains, slice_get, refl, sym, ap, subst, ◌∙◌, arith}
 use Rattle.std.specs.List.{AllZip}
 use Rattle.std.proofs.lemmas.List.Elements.{All-nil, All-cons, All-head, All-tail, length_all_zip}
+use Rattle.std.proofs.lemmas.Option.{slice_get_within, get_or_from_slice_get}
 use Rattle.std.proofs.lemmas.List.Kept.{AllPairs-cons}
 use Rattle.pz_syntax.specs.declared.tokens.Pos.{Pos}
 use Rattle.pz_copy.specs.Parcels.{ParcelView}
@@ -41,6 +42,11 @@ not_before : (p : Place) → PlaceBefore p p → ⊥
 not_before [] h = h
 not_before (i ∷ p) (inl less) = omega (arith, less)
 not_before (i ∷ p) (inr rest) = not_before p rest.1
+
+-- what stands at a number of a list
+pub all_at : {X : Type 0} (P : X → Type 0) (xs : List X) (k : ℕ) (x : X) → All P xs → slice_get xs k ≡ Some x → P x
+all_at P xs k x all is =
+    subst P (get_or_from_slice_get xs k x x is) (all k x (slice_get_within xs k x is))
 
 module _ (env : ℕ) where
   abbrev pub in_env : Place → End
