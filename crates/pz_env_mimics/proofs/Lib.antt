@@ -12,3 +12,6 @@ pub mod Moments
 pub mod Steps
 pub mod Starts
 pub mod Reaching
+pub mod Choosing
+pub mod Lines
+pub mod Telling

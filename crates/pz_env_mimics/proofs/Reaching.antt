@@ -55,11 +55,11 @@ module _ (known : Known) (g : Driving) (n : ModelTree) (closes : Closes g n) whe
   same_action q _ _ (matching.communication w s t r u message parcel is are) =
       closing.communication w s t r u message parcel (same_end q s t is) (same_end q r u are)
 
-  same_acted : (q : Place) (at clock k number : ℕ) (a b : Action) → at ≡ clock → SameActions env [] q a b → SameEvent g (acted clock k number a) (acted at k number b)
+  pub same_acted : (q : Place) (at clock k number : ℕ) (a b : Action) → at ≡ clock → SameActions env [] q a b → SameEvent g (acted clock k number a) (acted at k number b)
   same_acted q at clock k number a b e is =
       subst (λ (t : ℕ). SameEvent g (acted clock k number a) (acted t k number b)) (sym e) (closing.acted clock k number a b (same_action q a b is))
 
-  same_passed : (at clock time : ℕ) → at ≡ clock → SameEvent g (passed clock time) (passed at time)
+  pub same_passed : (at clock time : ℕ) → at ≡ clock → SameEvent g (passed clock time) (passed at time)
   same_passed at clock time e =
       subst (λ (t : ℕ). SameEvent g (passed clock time) (passed t time)) (sym e) (closing.passed clock time)
 
@@ -77,7 +77,7 @@ module _ (known : Known) (g : Driving) (n : ModelTree) (closes : Closes g n) whe
       pub is : IsChoice (closed g n) c count k action
       pub same : SameActions env [] here a action
 
-    choice_on : (count k : ℕ) (a : Action) → IsDrivenChoice g d count k a → ChoiceOn count k a
+    pub choice_on : (count k : ℕ) (a : Action) → IsDrivenChoice g d count k a → ChoiceOn count k a
     choice_on count k a is =
         let o = both.offers_on known g n closes d c m is.offers is.all in
         let at = at_number env [] here is.offers o.others k a o.same is.chosen in
@@ -93,7 +93,7 @@ module _ (known : Known) (g : Driving) (n : ModelTree) (closes : Closes g n) whe
       pub offers_it : DrivenOffers g d action
       pub same : SameActions env [] here action b
 
-    choice_back : (count k : ℕ) (b : Action) → IsChoice (closed g n) c count k b → ChoiceBack count k b
+    pub choice_back : (count k : ℕ) (b : Action) → IsChoice (closed g n) c count k b → ChoiceBack count k b
     choice_back count k b is =
         let o = both.offers_back known g n closes d c m is.offers is.all in
         let at = at_number env here [] is.offers o.others k b o.same is.chosen in
@@ -106,12 +106,12 @@ module _ (known : Known) (g : Driving) (n : ModelTree) (closes : Closes g n) whe
 
   -- Steps that lead on
 
-  record GoesOn (next : Driven) (r : Result Config Trouble) : Type 0 where
-    config : Config
-    is : r ≡ Ok config
-    same : Both next config
+  pub record GoesOn (next : Driven) (r : Result Config Trouble) : Type 0 where
+    pub config : Config
+    pub is : r ≡ Ok config
+    pub same : Both next config
 
-  goes_on : (x : Result Driven Trouble) (next : Driven) (r : Result Config Trouble) → x ≡ Ok next → SameNext known g n closes x r → GoesOn next r
+  pub goes_on : (x : Result Driven Trouble) (next : Driven) (r : Result Config Trouble) → x ≡ Ok next → SameNext known g n closes x r → GoesOn next r
   goes_on _ next _ e (goes d c same) = record { config = c; is = refl; same = subst (λ (k : Driven). Both k c) (ok_same d next e) same }
     where
       ok_same : (x y : Driven) → Ok {T = Driven} {E = Trouble} x ≡ Ok y → x ≡ y
@@ -121,12 +121,12 @@ module _ (known : Known) (g : Driving) (n : ModelTree) (closes : Closes g n) whe
       apart : (t : Trouble) → Err {T = Driven} t ≡ Ok next → ⊥
       apart t e = cc
 
-  record GoesBack (next : Config) (x : Result Driven Trouble) : Type 0 where
-    driven : Driven
-    is : x ≡ Ok driven
-    same : Both driven next
+  pub record GoesBack (next : Config) (x : Result Driven Trouble) : Type 0 where
+    pub driven : Driven
+    pub is : x ≡ Ok driven
+    pub same : Both driven next
 
-  goes_back : (x : Result Driven Trouble) (next : Config) (r : Result Config Trouble) → r ≡ Ok next → SameNext known g n closes x r → GoesBack next x
+  pub goes_back : (x : Result Driven Trouble) (next : Config) (r : Result Config Trouble) → r ≡ Ok next → SameNext known g n closes x r → GoesBack next x
   goes_back _ next _ e (goes d c same) = record { driven = d; is = refl; same = subst (Both d) (ok_same c next e) same }
     where
       ok_same : (x y : Config) → Ok {T = Config} {E = Trouble} x ≡ Ok y → x ≡ y
@@ -136,11 +136,11 @@ module _ (known : Known) (g : Driving) (n : ModelTree) (closes : Closes g n) whe
       apart : (t : Trouble) → Err {T = Config} t ≡ Ok next → ⊥
       apart t e = cc
 
-  fails_on : (x : Result Driven Trouble) (t : Trouble) (r : Result Config Trouble) → x ≡ Err t → SameNext known g n closes x r → r ≡ Err t
+  pub fails_on : (x : Result Driven Trouble) (t : Trouble) (r : Result Config Trouble) → x ≡ Err t → SameNext known g n closes x r → r ≡ Err t
   fails_on _ t _ e (goes d c same) = cc
   fails_on _ t _ e (fails u) = cc
 
-  fails_back : (x : Result Driven Trouble) (t : Trouble) (r : Result Config Trouble) → r ≡ Err t → SameNext known g n closes x r → x ≡ Err t
+  pub fails_back : (x : Result Driven Trouble) (t : Trouble) (r : Result Config Trouble) → r ≡ Err t → SameNext known g n closes x r → x ≡ Err t
   fails_back _ t _ e (goes d c same) = cc
   fails_back _ t _ e (fails u) = cc
 
