@@ -1,0 +1,14 @@
+mod Lists
+mod Evaluations
+mod Beginnings
+mod Meant
+mod Calls
+mod Openings
+mod Parts
+mod Deeds
+mod Meeting
+mod Behind
+mod Leading
+mod Elapsing
+mod Starting
+mod Highest

@@ -1,15 +1,13 @@
 -- Laws of one process: where it sees the same in another model, all that the rules say of it and of its parts
 -- is so in both. The model is that of its setting; both directions are said, so either may be meant.
-use Rattle.std.specs.Prelude.{◌≡◌, ◌≤◌, ◌↔◌, ℕ, Bool, List, Result, Some, slice_get}
+use Rattle.std.specs.Prelude.{◌≡◌, ◌≤◌, ◌↔◌, ℕ, Bool, List, Result}
 use Rattle.pz_syntax.specs.declared.tokens.Pos.{Pos}
 use Rattle.pz_syntax.specs.Expressions.{Part}
-use Rattle.pz_syntax.specs.Statements.{StatementPart}
 use Rattle.pz_syntax.specs.Classes.{ModelTree}
 use Rattle.pz_value.specs.declared.value.ClassId.{ClassId}
 use Rattle.pz_value.specs.declared.value.Value.{Value}
 use Rattle.pz_classes_code.specs.declared.slot.Slot.{Slot}
 use Rattle.pz_classes_code.specs.CodeView.{Tree}
-use Rattle.pz_classes.specs.Soundness.{IsSound}
 use Rattle.pz_classes.specs.MethodBodies.{process_method_body}
 use Rattle.pz_state.specs.States.{StateView}
 use Rattle.pz_copy.specs.Parcels.{ParcelView}
@@ -18,18 +16,19 @@ use Rattle.pz_offer.specs.declared.trouble.Trouble.{Trouble}
 use Rattle.pz_eval_rules.specs.declared.allowance.Allowance.{Allowance}
 use Rattle.pz_eval_rules.specs.declared.outcome.Outcome.{Outcome}
 use Rattle.pz_eval_rules.specs.declared.outcome.Listed.{Listed}
+use Rattle.pz_eval_rules.specs.Steps.{Codes}
 use Rattle.pz_eval_rules.specs.Outcomes.{Finds, FindsAll}
 use Rattle.pz_rules.specs.declared.action.Kind.{Kind}
 use Rattle.pz_rules.specs.declared.limits.Edition.{Edition}
-use Rattle.pz_rules.specs.Terms.{Code, Codes, Step, Steps, Term}
+use Rattle.pz_rules.specs.Terms.{Code, Step, Steps, Term}
 use Rattle.pz_rules.specs.Settings.{Setting, Process, Context}
-use Rattle.pz_rules.specs.Evaluations.{Gives, GivesAll, GivesPart, Tests, Lasts}
+use Rattle.pz_rules.specs.Evaluations.{GivesPart, Tests, Lasts}
 use Rattle.pz_rules.specs.Active.{Active}
 use Rattle.pz_rules.specs.InternalActions.{Can, Performs}
 use Rattle.pz_rules.specs.Messages.{Sends, Judges, Hands, Takes}
 use Rattle.pz_rules.specs.Asking.{Asks}
 use Rattle.pz_rules.specs.Delays.{Delays, Passes}
-use Rattle.pz_rules.specs.Opening.{enter, opened, opened_all, opened_part, depth_of}
+use Rattle.pz_rules.specs.Opening.{opened, opened_all, depth_of}
 use Rattle.pz_rules.specs.Leaving.{settled}
 use Rattle.pz_rules.specs.Openable.{IsProcessClass}
 use Rattle.pz_rules.specs.CallLaws.{NoRounds}
@@ -121,7 +120,7 @@ SequencesOpenTheSame = (m n : ModelTree) (edition : Edition) (class : ℕ) (ts :
 -- Where no method of m begins with itself, how deep calls are followed plays no part: so the bodies of the
 -- methods are enough, where n has no fewer methods.
 abbrev pub SameBodiesMakeSameCalls : Type 0
-SameBodiesMakeSameCalls = (m n : ModelTree) (class : ℕ) → IsSound m → NoRounds m → IsProcessClass m class → depth_of m ≤ depth_of n
+SameBodiesMakeSameCalls = (m n : ModelTree) (class : ℕ) → NoRounds m → IsProcessClass m class → depth_of m ≤ depth_of n
     → ((name : List ℕ) (inputs outputs : ℕ) → process_method_body m class name inputs outputs ≡ process_method_body n class name inputs outputs)
     → SameClass m n class
 

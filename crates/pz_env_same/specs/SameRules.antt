@@ -1,5 +1,7 @@
 -- Models with the same rules: one has all that the other has, and one process more behind it.
 use Rattle.std.specs.Prelude.{◌≡◌, ◌<◌, ◌↔◌, ℕ, List, [], ◌∷◌, ◌++◌, length, Some, slice_get}
+use Rattle.pz_syntax.specs.declared.tokens.Pos.{Pos}
+use Rattle.pz_syntax.specs.declared.names.Id.{Id}
 use Rattle.pz_syntax.specs.Classes.{ModelTree}
 use Rattle.pz_classes.specs.Members.{fields}
 use Rattle.pz_classes.specs.MethodBodies.{method_body, process_method_body}
@@ -10,9 +12,9 @@ use Rattle.pz_bind.specs.Nest.{processes, class_at}
 use Rattle.pz_bind.specs.Values.{values_at}
 use Rattle.pz_state.specs.States.{StateView}
 use Rattle.pz_rules.specs.declared.limits.Edition.{Edition}
-use Rattle.pz_rules.specs.Terms.{Step}
 use Rattle.pz_rules.specs.Settings.{Setting, Context, Home}
 use Rattle.pz_rules.specs.Opening.{enter}
+use Rattle.pz_rules.specs.CallLaws.{plain_call}
 use Rattle.pz_rules.specs.Ports.{IsWire}
 
 -- What evaluation takes of a model is the same in both: the fields of a data class, and the bodies of its
@@ -24,13 +26,14 @@ pub record SameData (m n : ModelTree) : Type 0 where
 abbrev pub home_in : ModelTree → Edition → ℕ → Home
 home_in m edition class = record { model = m; edition = edition; class = class }
 
--- What the statements of a process of this class take of it is the same in both: the bodies of its methods,
--- and what a plain call becomes.
+-- What the statements of processes of this class take of a model is the same in both: the bodies of their
+-- methods, and what a plain call becomes.
 pub record SameClass (m n : ModelTree) (class : ℕ) : Type 0 where
   pub bodies : (name : List ℕ) (inputs outputs : ℕ) → process_method_body m class name inputs outputs ≡ process_method_body n class name inputs outputs
-  pub calls : (edition : Edition) (call : Step) (s : StateView) → enter (home_in m edition class) call s ≡ enter (home_in n edition class) call s
+  pub calls : (edition : Edition) (pos : Pos) (method : Id) (s : StateView)
+      → enter (home_in m edition class) (plain_call pos method) s ≡ enter (home_in n edition class) (plain_call pos method) s
 
--- so is what stands at this place
+-- What stands at this place is of the same class in both, is named the same, and starts and goes on the same.
 pub record SameProcess (m n : ModelTree) (place : Address) : Type 0 where
   pub class : class_at m place ≡ class_at n place
   pub path : path m place ≡ path n place
@@ -38,11 +41,12 @@ pub record SameProcess (m n : ModelTree) (place : Address) : Type 0 where
   pub init : init m (class_at m place) ≡ init n (class_at m place)
   pub statements : SameClass m n (class_at m place)
 
--- The model n has the processes of m, with the same numbers and wires, and one more behind them.
+-- The model n has the processes of m, at the same numbers and places and with the same wires, and one more,
+-- at a place of its own, behind them.
 pub record SameRules (m n : ModelTree) : Type 0 where
-  pub data : SameData m n
+  pub data_classes : SameData m n
   pub more : Address
-  pub processes : processes n ≡ processes m ++ more ∷ []
+  pub behind : processes n ≡ processes m ++ more ∷ []
   pub each : (i : ℕ) (place : Address) → slice_get (processes m) i ≡ Some place → SameProcess m n place
   pub wires : (i port wire : ℕ) → i < length (processes m) → IsWire m i port wire ↔ IsWire n i port wire
 
@@ -55,5 +59,5 @@ seen_in n a = record a { setting = in_model n a.setting }
 
 -- A process, as its statements see it, sees the same in the model n.
 pub record SeesTheSame (n : ModelTree) (a : Context) : Type 0 where
-  pub data : SameData a.setting.model n
+  pub data_classes : SameData a.setting.model n
   pub statements : SameClass a.setting.model n a.class

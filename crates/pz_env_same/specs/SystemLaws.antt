@@ -4,7 +4,7 @@ use Rattle.std.specs.Prelude.{◌≡◌, ◌↔◌, ℕ, Bool, List, [], ◌∷�
 use Rattle.pz_syntax.specs.declared.tokens.Pos.{Pos}
 use Rattle.pz_syntax.specs.Classes.{ModelTree}
 use Rattle.pz_bind_levels.specs.Places.{Address}
-use Rattle.pz_bind.specs.Nest.{processes}
+use Rattle.pz_bind.specs.Nest.{processes, class_at}
 use Rattle.pz_copy.specs.Parcels.{ParcelView}
 use Rattle.pz_offer.specs.declared.end.End.{End}
 use Rattle.pz_offer.specs.declared.trouble.Trouble.{Trouble}
@@ -21,7 +21,7 @@ use Rattle.pz_rules.specs.Starting.{StartsAs, IsStart}
 use Rattle.pz_rules.specs.Offers.{PartAt, IsPair, IsJudged, Offers}
 use Rattle.pz_rules.specs.Steps.{Acts, Next, PassesTo, with_process, with_both}
 use Rattle.pz_rules.specs.Moments.{IsFirstHigh, Source, part, pair, Troubles, IsLeft, AllDone}
-use Rattle.pz_env_same.specs.SameRules.{SameRules, in_model, seen_in}
+use Rattle.pz_env_same.specs.SameRules.{SameRules, in_model, seen_in, SeesTheSame}
 use Rattle.pz_env_same.specs.OneMore.{OneMore, behind, result_behind, IsOf, number_of_more, IsActionOf}
 
 -- of a model n, a setting g with its model, and configurations c and e
@@ -29,6 +29,9 @@ abbrev pub OfBoth : (ModelTree → Setting → Config → Config → Process →
 OfBoth says = (n : ModelTree) (g : Setting) (c e : Config) (p : Process) → SameRules g.model n → OneMore g c e p → says n g c e p
 
 -- What stands where
+
+abbrev pub OneMoreIsBehind : Type 0
+OneMoreIsBehind = (g : Setting) (c e : Config) (p : Process) → OneMore g c e p → e ≡ behind c p
 
 abbrev pub BothAreWhole : Type 0
 BothAreWhole = OfBoth (λ n g c e p. IsWhole (in_model n g) e)
@@ -39,9 +42,22 @@ ProcessesStandInBoth = OfBoth (λ n g c e p. (i : ℕ) (q : Process) →
     ((a : Context) → Stands g c i q a → Stands (in_model n g) e i q (seen_in n a))
     × ((a : Context) → IsOf g.model i → Stands (in_model n g) e i q a → Stands g c i q (seen_in g.model a)))
 
+abbrev pub ProcessesSeeTheSameInBoth : Type 0
+ProcessesSeeTheSameInBoth = OfBoth (λ n g c e p. (i : ℕ) (q : Process) →
+    ((a : Context) → Stands g c i q a → SeesTheSame n a)
+    × ((a : Context) → IsOf g.model i → Stands (in_model n g) e i q a → SeesTheSame g.model a))
+
 -- the one more stands behind them, and nothing else does
 abbrev pub OneMoreStands : Type 0
 OneMoreStands = OfBoth (λ n g c e p. (i : ℕ) (q : Process) (a : Context) → Stands (in_model n g) e i q a → (IsOf g.model i → ⊥) → (i ≡ number_of_more g.model) × (q ≡ p))
+
+-- which is seen so
+abbrev pub seen_more : (n : ModelTree) (g : Setting) (e : Config) (p : Process) → SameRules g.model n → Context
+seen_more n g e p same = record { setting = in_model n g; process = number_of_more g.model; class = class_at n same.more; clock = e.clock; state = p.state }
+
+abbrev pub OneMoreIsLast : Type 0
+OneMoreIsLast = (n : ModelTree) (g : Setting) (c e : Config) (p : Process) (same : SameRules g.model n) → OneMore g c e p
+    → Stands (in_model n g) e (number_of_more g.model) p (seen_more n g e p same)
 
 abbrev pub PartsStandInBoth : Type 0
 PartsStandInBoth = OfBoth (λ n g c e p. (at : End) (f : ℕ) (t : Term) →
