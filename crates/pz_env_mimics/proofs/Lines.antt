@@ -1,5 +1,5 @@
 -- The lines of both are the same.
-use Rattle.std.proofs.Common.{◌≡◌, ◌<◌, ◌≤◌, ◌⊎◌, inl, inr, ℕ, zero, suc, Bool, true, false, List, [], ◌∷◌, ◌++◌, length, Option, Some, None, codes, slice_get, nat_eq, if◌then◌else◌, flat_map, refl, sym, ap, subst, ◌∙◌, arith, decimal, length-append}
+use Rattle.std.proofs.Common.{◌≡◌, ◌+◌, ◌<◌, ◌≤◌, ◌⊎◌, inl, inr, ℕ, zero, suc, Bool, true, false, List, [], ◌∷◌, ◌++◌, length, Option, Some, None, codes, slice_get, nat_eq, if◌then◌else◌, flat_map, refl, sym, ap, subst, ◌∙◌, arith, decimal, length-append}
 use Rattle.std.specs.Option.{option_map_or}
 use Rattle.std.specs.List.{AllZip}
 use Rattle.std.proofs.lemmas.Bool.{cases_lt, cases_eq, eq-eqb, eqb-true}
@@ -55,7 +55,7 @@ module _ (g : Driving) (n : ModelTree) (has : HasEnvironment g n) where
   same_path i = by (cases_lt i env) (cases_lt env i)
     where
       apart : (i ≡ env → ⊥) → nat_eq i env ≡ false
-      apart no = never (nat_eq i env) (λ e. no (eqb-true i env e))
+      apart different = never (nat_eq i env) (λ e. different (eqb-true i env e))
 
       by : (i < env) ⊎ (env ≤ i) → (env < i) ⊎ (i ≤ env) → path_in g i ≡ path_of n i
       by (inl low) other = other_path i (apart (λ e. omega (arith, low, e))) ∙ sym (has.paths i low)

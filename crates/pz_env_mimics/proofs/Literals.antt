@@ -63,7 +63,7 @@ module _ (model : ModelTree) (now frame : ℕ) (s : StateView) (at : Pos) (x : L
       (ap outcome.Value (sym same.0), ap (λ (k : Memory). k.state) (sym same.1))
   one_only _ _ (a_fault {kind = kind} {at = place} w) =
       absurd (stop_apart kind place (constant x) (outside s) (constant_answer w.derivation).answer)
-  one_only _ _ (too_much none) = absurd (none (gives (constant x) (outside s)) within_one)
+  one_only _ _ (too_much nothing) = absurd (nothing (gives (constant x) (outside s)) within_one)
 
 -- A list of literals
 
@@ -126,11 +126,11 @@ module _ (model : ModelTree) (now : ℕ) (p : Location) (m : Memory) (at : Pos) 
       let rest = only_derived vs (before ++ v ∷ []) a u2 d2 (All-tail IsConstant v vs plain) moved in
       let paid : u1 ≡ 1 = one.units in
       let deep : d1 ≡ 1 = one.depth in
-      let more : u2 ≡ length vs = rest.units in
+      let further : u2 ≡ length vs = rest.units in
       let low : d2 ≤ 1 = rest.depth in
       record {
         answer = rest.answer ∙ ap (λ (l : List Value). gives l m) (append_assoc before (v ∷ []) vs);
-        units = omega (arith, paid, more);
+        units = omega (arith, paid, further);
         depth = max_low d1 d2 (omega (arith, deep)) low;
       }
   only_derived (v ∷ vs) before _ _ _ plain (an_argument_stops {e = e} first) =
@@ -160,22 +160,22 @@ module _ (model : ModelTree) (now frame : ℕ) (s : StateView) (at : Pos) (value
       (ap listed.Values (sym same.0), ap (λ (k : Memory). k.state) (sym same.1))
   all_only paid _ _ (one_fault {kind = kind} {at = place} w) =
       absurd (stop_apart kind place values (outside s) (answers_are (stops (fault kind place)) w).answer)
-  all_only paid _ _ (all_too_much none) = absurd (none (gives values (outside s)) (within_all paid))
+  all_only paid _ _ (all_too_much nothing) = absurd (nothing (gives values (outside s)) (within_all paid))
 
   nothing_within : allowed.units < length values → (a : Answer (List Value)) → Within (AllComeTo model now frame s (literals at values)) allowed a → ⊥
-  nothing_within more a w =
+  nothing_within many a w =
       let is = answers_are a w in
       let count : w.units ≡ length values = is.units in
       let paid : w.units ≤ allowed.units = w.paid in
-      omega (arith, more, count, paid)
+      omega (arith, many, count, paid)
 
   pub all_spent : allowed.units < length values → FindsAll model now frame s (literals at values) allowed listed.Spent s
-  all_spent more = all_too_much (nothing_within more)
+  all_spent many = all_too_much (nothing_within many)
 
   pub only_spent : allowed.units < length values → (o : Listed) (s1 : StateView) → FindsAll model now frame s (literals at values) allowed o s1 → (o ≡ listed.Spent) × (s1 ≡ s)
-  only_spent more _ _ (all_values {a = b} w e) = absurd (nothing_within more b w)
-  only_spent more _ _ (one_fault {kind = kind} {at = place} w) = absurd (nothing_within more (stops (fault kind place)) w)
-  only_spent more _ _ (all_too_much none) = (refl, refl)
+  only_spent many _ _ (all_values {a = b} w e) = absurd (nothing_within many b w)
+  only_spent many _ _ (one_fault {kind = kind} {at = place} w) = absurd (nothing_within many (stops (fault kind place)) w)
+  only_spent many _ _ (all_too_much nothing) = (refl, refl)
 
 -- What they are in a statement
 
@@ -217,7 +217,7 @@ module _ (a : Context) (f : ℕ) (at : Pos) (deep : 1 ≤ a.setting.limits.depth
             (is.means ∙ ap (values_or_trouble a.process at) only.0, only.1)
 
     pub arguments_spent : a.setting.limits.units < length values → GivesPart a f at (arguments at values) (Err (Spent a.process at)) a.state
-    arguments_spent more = by values plain more
+    arguments_spent many = by values plain many
       where
         by : (vs : List Value) → All IsConstant vs → a.setting.limits.units < length vs → GivesPart a f at (arguments at vs) (Err (Spent a.process at)) a.state
         by [] all many = absurd (omega (arith, many))
@@ -225,7 +225,7 @@ module _ (a : Context) (f : ℕ) (at : Pos) (deep : 1 ≤ a.setting.limits.depth
             record { outcome = listed.Spent; finds = all_spent a.setting.model a.clock f a.state at (v ∷ vs) all (allowance a.setting.limits) deep many; means = refl }
 
     pub arguments_only_spent : a.setting.limits.units < length values → (r : Result (List Value) Trouble) (s : StateView) → GivesPart a f at (arguments at values) r s → r ≡ Err (Spent a.process at)
-    arguments_only_spent more r s = by values plain more
+    arguments_only_spent many r s = by values plain many
       where
         by : (vs : List Value) → All IsConstant vs → a.setting.limits.units < length vs → GivesPart a f at (arguments at vs) r s → r ≡ Err (Spent a.process at)
         by [] all many is = absurd (omega (arith, many))

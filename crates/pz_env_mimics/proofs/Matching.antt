@@ -152,84 +152,87 @@ module _ (env : ℕ) where
 
     -- Lists
 
-    before_all : (a b : Action) (as bs : List Action) → SameActions p q a b → AllZip (SameActions p q) as bs → All (Before a) as → All (Before b) bs
+    before_all : (a b : Action) (xs ys : List Action) → SameActions p q a b → AllZip (SameActions p q) xs ys → All (Before a) xs → All (Before b) ys
     before_all a b [] [] is same h = All-nil (Before b)
     before_all a b [] (d ∷ ds) is same h = absurd same
     before_all a b (c ∷ cs) [] is same h = absurd same
     before_all a b (c ∷ cs) (d ∷ ds) is same h =
         All-cons (Before b) d ds (action_before a b c d is same.0 (All-head (Before a) c cs h)) (before_all a b cs ds is same.1 (All-tail (Before a) c cs h))
 
-    pub in_order : (as bs : List Action) → AllZip (SameActions p q) as bs → AllPairs Before as → AllPairs Before bs
+    pub in_order : (xs ys : List Action) → AllZip (SameActions p q) xs ys → AllPairs Before xs → AllPairs Before ys
     in_order [] [] same h = pairs_nil Before
     in_order [] (d ∷ ds) same h = absurd same
     in_order (c ∷ cs) [] same h = absurd same
     in_order (c ∷ cs) (d ∷ ds) same h =
         AllPairs-cons Before d ds (before_all c d cs ds same.0 same.1 (pairs_head Before c cs h)) (in_order cs ds same.1 (pairs_tail Before c cs h))
 
-    pub contains_same : (as bs : List Action) (a b : Action) → AllZip (SameActions p q) as bs → SameActions p q a b → Contains as a → Contains bs b
+    pub contains_same : (xs ys : List Action) (a b : Action) → AllZip (SameActions p q) xs ys → SameActions p q a b → Contains xs a → Contains ys b
     contains_same [] [] a b same is h = absurd (contains_none a h)
     contains_same [] (d ∷ ds) a b same is h = absurd same
     contains_same (c ∷ cs) [] a b same is h = absurd same
-    contains_same (c ∷ cs) (d ∷ ds) a b same is h = by (contains_cases c cs a h)
+    contains_same (c ∷ cs) (d ∷ ds) a b same is h =
+        by (contains_cases c cs a h) (λ k. contains_same cs ds a b same.1 is k)
       where
-        by : (a ≡ c) ⊎ Contains cs a → Contains (d ∷ ds) b
-        by (inl e) =
+        by : (a ≡ c) ⊎ Contains cs a → (Contains cs a → Contains ds b) → Contains (d ∷ ds) b
+        by (inl e) rest =
             subst (Contains (d ∷ ds)) (sym (one_action a b c d is same.0 e)) (contains_first d ds)
-        by (inr k) = contains_later d ds b (contains_same cs ds a b same.1 is k)
+        by (inr k) rest = contains_later d ds b (rest k)
 
     -- the action of this number, and that in the other list
-    pub record AtNumber (bs : List Action) (k : ℕ) (a : Action) : Type 0 where
+    pub record AtNumber (ys : List Action) (k : ℕ) (a : Action) : Type 0 where
       pub other : Action
-      pub there : slice_get bs k ≡ Some other
+      pub there : slice_get ys k ≡ Some other
       pub same : SameActions p q a other
 
     some_same : {X : Type 0} (x y : X) → Some x ≡ Some y → x ≡ y
     some_same x y e = cc
 
-    pub at_number : (as bs : List Action) (k : ℕ) (a : Action) → AllZip (SameActions p q) as bs → slice_get as k ≡ Some a → AtNumber bs k a
-    at_number [] bs k a same is = absurd (none_there is)
+    pub at_number : (xs ys : List Action) (k : ℕ) (a : Action) → AllZip (SameActions p q) xs ys → slice_get xs k ≡ Some a → AtNumber ys k a
+    at_number [] ys k a same is = absurd (none_there is)
       where
         none_there : slice_get {X = Action} [] k ≡ Some a → ⊥
         none_there e = cc
     at_number (c ∷ cs) [] k a same is = absurd same
     at_number (c ∷ cs) (d ∷ ds) zero a same is =
         record { other = d; there = refl; same = subst (λ (x : Action). SameActions p q x d) (some_same c a is) same.0 }
-    at_number (c ∷ cs) (d ∷ ds) (suc k) a same is = at_number cs ds k a same.1 is
+    at_number (c ∷ cs) (d ∷ ds) (suc k) a same is =
+        let rest = at_number cs ds k a same.1 is in
+        record { other = rest.other; there = rest.there; same = rest.same }
 
-    -- each of a list has another that is as it is wanted
-    pub record Carried (P Q : Action → Type 0) (as : List Action) : Type 0 where
+    -- each of a list has another that is xs it is wanted
+    pub record Carried (P Q : Action → Type 0) (xs : List Action) : Type 0 where
       pub others : List Action
-      pub same : AllZip (SameActions p q) as others
+      pub same : AllZip (SameActions p q) xs others
       pub each : All Q others
 
-    pub carried : (P Q : Action → Type 0) → ((a : Action) → P a → (b : Action) × SameActions p q a b × Q b) → (as : List Action) → All P as → Carried P Q as
+    pub carried : (P Q : Action → Type 0) → ((a : Action) → P a → (b : Action) × SameActions p q a b × Q b) → (xs : List Action) → All P xs → Carried P Q xs
     carried P Q other [] each = record { others = []; same = tt; each = All-nil Q }
-    carried P Q other (a ∷ as) each =
-        let one = other a (All-head P a as each) in
-        let rest = carried P Q other as (All-tail P a as each) in
+    carried P Q other (a ∷ xs) each =
+        let one = other a (All-head P a xs each) in
+        let rest = carried P Q other xs (All-tail P a xs each) in
         record { others = one.0 ∷ rest.others; same = (one.1, rest.same); each = All-cons Q one.0 rest.others one.2 rest.each }
 
     -- The one list of what is P, in order and whole; so is that of what is Q.
-    pub record Whole (P : Action → Type 0) (as : List Action) : Type 0 where
-      pub ordered : AllPairs Before as
-      pub each : All P as
-      pub every : (a : Action) → P a → Contains as a
+    pub record Whole (P : Action → Type 0) (xs : List Action) : Type 0 where
+      pub ordered : AllPairs Before xs
+      pub each : All P xs
+      pub every : (a : Action) → P a → Contains xs a
 
-    pub record WholeOther (Q : Action → Type 0) (as : List Action) : Type 0 where
+    pub record WholeOther (Q : Action → Type 0) (xs : List Action) : Type 0 where
       pub others : List Action
-      pub same : AllZip (SameActions p q) as others
+      pub same : AllZip (SameActions p q) xs others
       pub whole : Whole Q others
 
   pub whole_other : (p q : Place) (P Q : Action → Type 0) → ((a : Action) → P a → (b : Action) × SameActions p q a b × Q b) → ((b : Action) → Q b → (a : Action) × SameActions q p b a × P a)
-      → (as : List Action) → Whole p q P as → WholeOther p q Q as
-  whole_other p q P Q on back as is =
-      let c = carried p q P Q on as is.each in
+      → (xs : List Action) → Whole p q P xs → WholeOther p q Q xs
+  whole_other p q P Q on back xs is =
+      let c = carried p q P Q on xs is.each in
       record {
         others = c.others;
         same = c.same;
         whole = record {
-          ordered = in_order p q as c.others c.same is.ordered;
+          ordered = in_order p q xs c.others c.same is.ordered;
           each = c.each;
-          every = λ b h. (let a = back b h in contains_same p q as c.others a.0 b c.same (action_back q p b a.0 a.1) (is.every a.0 a.2));
+          every = λ b h. (let a = back b h in contains_same p q xs c.others a.0 b c.same (action_back q p b a.0 a.1) (is.every a.0 a.2));
         };
       }

@@ -199,11 +199,11 @@ module _ (known : Known) (g : Driving) (n : ModelTree) (closes : Closes g n) (d 
 
   -- The end
 
-  over_on : AllOver d → AllDone c
+  over_on : AllOver g d → AllDone c
   over_on is =
       (known.done g.setting d.system c m.more m.both).0 (is.system, over_done port Fits d.environment.doing m.more.term m.does is.environment)
 
-  over_back : AllDone c → AllOver d
+  over_back : AllDone c → AllOver g d
   over_back is =
       let h = (known.done g.setting d.system c m.more m.both).1 is in
       record { system = h.0; environment = done_over port Fits d.environment.doing m.more.term m.does h.1 }

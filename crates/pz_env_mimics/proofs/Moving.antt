@@ -184,7 +184,7 @@ module _ (a : Context) (deep : 1 ≤ a.setting.limits.depth) (g p : ℕ) (x : Li
             parcel_is = only_plain_parcel s values plain parcel (subst (λ (vs : List Value). IsParcelOf s vs parcel) (ok_same found values only.0) packed);
             leaves =
                 ap (λ (q : Result (List Value) Trouble). and_then q (λ _. Ok (done_in left))) does.0
-                ∙ ap (λ (z : StateView). Ok {T = Process} {E = Trouble} (done_in z)) (does.1 ∙ only.1);
+                ∙ ap (λ (z : StateView). let q : Result Process Trouble = Ok (done_in z) in q) (does.1 ∙ only.1);
           }
 
   exchange_hands_there : (transfer : Transfer) (values : List Value) → transfer ≡ Send values → All IsConstant values → length values ≤ a.setting.limits.units → parcel ≡ record { values = values; objects = [] }
@@ -218,8 +218,8 @@ module _ (a : Context) (g p : ℕ) (x : Line) (parcel : ParcelView) where
         leaves =
             let leaves_so : Ok (done_in (bound a g (unless_none (replicate count (Shared 0))) parcel)) ≡ and_then r (λ _. Ok (done_in left)) =
             sym
-            (ap (λ (q : Result (List Value) Trouble). and_then q (λ _. Ok {T = Process} {E = Trouble} (done_in left))) does.0
-            ∙ ap (λ (z : StateView). Ok {T = Process} {E = Trouble} (done_in z)) does.1)
+            (ap (λ (q : Result (List Value) Trouble). let z : Result Process Trouble = and_then q (λ _. Ok (done_in left)) in z) does.0
+            ∙ ap (λ (z : StateView). let q : Result Process Trouble = Ok (done_in z) in q) does.1)
             in
             subst (TakenBy a x parcel) leaves_so
             (taken (bound a g (unless_none (replicate count (Shared 0))) parcel) fits (bound_objects g count parcel a.state));
@@ -246,7 +246,7 @@ module _ (a : Context) (g p : ℕ) (x : Line) (parcel : ParcelView) where
 
 -- What the environment becomes
 
-module _ (a : Context) (paid : 1 ≤ a.setting.limits.units) (deep : 1 ≤ a.setting.limits.depth) (tall : 3 ≤ a.setting.limits.height) (port : Line → ℕ) (Fit : Line → Type 0) (plain : (x : Line) → Fit x → IsPlain x) where
+module _ (a : Context) (enough : 1 ≤ a.setting.limits.units) (deep : 1 ≤ a.setting.limits.depth) (tall : 3 ≤ a.setting.limits.height) (port : Line → ℕ) (Fit : Line → Type 0) (plain : (x : Line) → Fit x → IsPlain x) where
   -- by the end of a wait
   pub record Expired (doing : Doing) (at : Pos) (result : Result Process Trouble) : Type 0 where
     pub left : ℕ
@@ -385,7 +385,7 @@ module _ (a : Context) (paid : 1 ≤ a.setting.limits.units) (deep : 1 ≤ a.set
 
   passes_waiting : (d f : ℕ) (x : Line) (left : ℕ) (t u : Term) → IsPlain x → IsWaiting x left t → Passes a d f t u → IsWaiting x (left - d) u
   passes_waiting d f x _ _ _ is not_begun (delays.begins _ at e left lasts) =
-      let same : left ≡ wait_of x.entry = ok_same left (wait_of x.entry) (plain_number_only a paid deep f x is (Ok left) lasts) in
+      let same : left ≡ wait_of x.entry = ok_same left (wait_of x.entry) (plain_number_only a enough deep f x is (Ok left) lasts) in
       subst (λ (k : ℕ). IsWaiting x (wait_of x.entry - d) (wait (k - d) (at_line x))) (sym same) (begun (wait_of x.entry - d))
   passes_waiting d f x _ _ _ is not_begun (delays.stays _ s timeless) = absurd (false_apart timeless)
     where
@@ -416,7 +416,7 @@ module _ (a : Context) (paid : 1 ≤ a.setting.limits.units) (deep : 1 ≤ a.set
 
   waiting_passes : (d f : ℕ) (x : Line) (left : ℕ) (t : Term) → IsPlain x → IsWaiting x left t → (u : Term) × Passes a d f t u
   waiting_passes d f x _ _ is not_begun =
-      (wait (wait_of x.entry - d) (at_line x), delays.begins f (at_line x) (expression.literal (at_line x) (literal.Int x.entry.wait)) (wait_of x.entry) (plain_number a paid deep f x is))
+      (wait (wait_of x.entry - d) (at_line x), delays.begins f (at_line x) (expression.literal (at_line x) (literal.Int x.entry.wait)) (wait_of x.entry) (plain_number a enough deep f x is))
   waiting_passes d f x _ _ is (begun left) =
       (wait (left - d) (at_line x), delays.goes_on f left (at_line x))
 

@@ -99,7 +99,7 @@ module _ (known : Known) (g : Driving) (n : ModelTree) (closes : Closes g n) (d 
       (known.sends n (seen_in g.setting.model a) f t pos number message parcel (known.sees n g.setting d.system at.process old.process (seen_in g.setting.model a) closes.rules old.stands)).1
       (subst (λ (b : Context). Sends b f t pos number message parcel) (sym (seen_again a (setting_of at a f t is))) says)
 
-  -- The environment as a part
+  -- The environment xs a part
 
   limits_units : 1 ≤ seen.setting.limits.units
   limits_units = closes.limits.units
@@ -110,7 +110,7 @@ module _ (known : Known) (g : Driving) (n : ModelTree) (closes : Closes g n) (d 
   plain_lines : (x : Line) → Fits x → IsPlain x
   plain_lines = fit_plain known g n closes
 
-  -- offered in the driven system, it is there as a part
+  -- offered in the driven system, it is there xs a part
   pub record IsOffered (x : Line) (rest : List Line) : Type 0 where
     pub fit : Fits x
     pub part : PartAt (closed g n) c env_there seen 1 (leaf (exchange (port x) x x.entry.transfer))
@@ -310,15 +310,13 @@ module _ (known : Known) (g : Driving) (n : ModelTree) (closes : Closes g n) (d 
       }
 
   pub judged_on : (w : ℕ) (s r u : End) (message : List ℕ) (parcel : ParcelView) (verdict : Result Bool Trouble) → IsDrivenPair g d w s r message parcel → Ends r u → IsDrivenJudged g d r parcel verdict → IsJudged (closed g n) c u parcel verdict
-  judged_on w s _ _ message parcel verdict pair (of_system r low) (by_process _ _ _ is) =
-      (known.verdicts n g.setting d.system c m.more closes.rules m.both r parcel verdict low).0 is
-  judged_on w s _ _ message parcel _ pair (of_system r low) (by_environment _) =
-      absurd (omega (arith, low))
-  judged_on w s _ _ message parcel verdict pair of_env (by_process _ _ _ is) =
-      let low = low_of (environment_end g) is.seen is.frame is.part is.active in
-      absurd (omega (arith, low))
-  judged_on w s _ _ message parcel _ pair of_env (by_environment _) =
-      env_receives w s (environment_end g) message parcel pair refl
+  judged_on w s r u message parcel verdict pair same (by_process _ _ _ is) =
+      let low = low_of r is.seen is.frame is.part is.active in
+      subst (λ (e : End). IsJudged (closed g n) c e parcel verdict) (matching.one_end env [] here r r r u (of_system r low) same refl)
+      ((known.verdicts n g.setting d.system c m.more closes.rules m.both r parcel verdict low).0 is)
+  judged_on w s _ u message parcel _ pair same (by_environment _) =
+      subst (λ (e : End). IsJudged (closed g n) c e parcel (Ok true)) (matching.one_end env [] here (environment_end g) env_there (environment_end g) u of_env same refl)
+      (env_receives w s (environment_end g) message parcel pair refl)
 
   pub judged_back : (r u : End) (parcel : ParcelView) (verdict : Result Bool Trouble) → Ends r u → IsJudged (closed g n) c u parcel verdict → IsDrivenJudged g d r parcel verdict
   judged_back _ _ parcel verdict (of_system r low) is =
@@ -383,22 +381,22 @@ module _ (known : Known) (g : Driving) (n : ModelTree) (closes : Closes g n) (d 
 
   -- Lists of offers
 
-  pub record OffersOn (as : List Action) : Type 0 where
+  pub record OffersOn (xs : List Action) : Type 0 where
     pub others : List Action
-    pub same : AllZip Actions as others
+    pub same : AllZip Actions xs others
     pub are : IsOffers (closed g n) c others
 
-  pub offers_on : (as : List Action) → IsDrivenOffers g d as → OffersOn as
-  offers_on as is =
-      let w = whole_other env [] here (DrivenOffers g d) (Offers (closed g n) c) offer_on offer_back as (record { ordered = is.ordered; each = is.derivable; every = is.every }) in
+  pub offers_on : (xs : List Action) → IsDrivenOffers g d xs → OffersOn xs
+  offers_on xs is =
+      let w = whole_other env [] here (DrivenOffers g d) (Offers (closed g n) c) offer_on offer_back xs (record { ordered = is.ordered; each = is.derivable; every = is.every }) in
       record { others = w.others; same = w.same; are = record { ordered = w.whole.ordered; derivable = w.whole.each; every = w.whole.every } }
 
-  pub record OffersBack (bs : List Action) : Type 0 where
+  pub record OffersBack (ys : List Action) : Type 0 where
     pub others : List Action
-    pub same : AllZip (SameActions env here []) bs others
+    pub same : AllZip (SameActions env here []) ys others
     pub are : IsDrivenOffers g d others
 
-  pub offers_back : (bs : List Action) → IsOffers (closed g n) c bs → OffersBack bs
-  offers_back bs is =
-      let w = whole_other env here [] (Offers (closed g n) c) (DrivenOffers g d) offer_back offer_on bs (record { ordered = is.ordered; each = is.derivable; every = is.every }) in
+  pub offers_back : (ys : List Action) → IsOffers (closed g n) c ys → OffersBack ys
+  offers_back ys is =
+      let w = whole_other env here [] (Offers (closed g n) c) (DrivenOffers g d) offer_back offer_on ys (record { ordered = is.ordered; each = is.derivable; every = is.every }) in
       record { others = w.others; same = w.same; are = record { ordered = w.whole.ordered; derivable = w.whole.each; every = w.whole.every } }

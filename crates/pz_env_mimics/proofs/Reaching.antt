@@ -114,11 +114,11 @@ module _ (known : Known) (g : Driving) (n : ModelTree) (closes : Closes g n) whe
   pub goes_on : (x : Result Driven Trouble) (next : Driven) (r : Result Config Trouble) → x ≡ Ok next → SameNext known g n closes x r → GoesOn next r
   goes_on _ next _ e (goes d c same) = record { config = c; is = refl; same = subst (λ (k : Driven). Both k c) (ok_same d next e) same }
     where
-      ok_same : (x y : Driven) → Ok {T = Driven} {E = Trouble} x ≡ Ok y → x ≡ y
+      ok_same : (x y : Driven) → (let r : Result Driven Trouble = Ok x in r ≡ Ok y) → x ≡ y
       ok_same x y e = cc
   goes_on _ next _ e (fails t) = absurd (apart t e)
     where
-      apart : (t : Trouble) → Err {T = Driven} t ≡ Ok next → ⊥
+      apart : (t : Trouble) → (let r : Result Driven Trouble = Err t in r ≡ Ok next) → ⊥
       apart t e = cc
 
   pub record GoesBack (next : Config) (x : Result Driven Trouble) : Type 0 where
@@ -129,11 +129,11 @@ module _ (known : Known) (g : Driving) (n : ModelTree) (closes : Closes g n) whe
   pub goes_back : (x : Result Driven Trouble) (next : Config) (r : Result Config Trouble) → r ≡ Ok next → SameNext known g n closes x r → GoesBack next x
   goes_back _ next _ e (goes d c same) = record { driven = d; is = refl; same = subst (Both d) (ok_same c next e) same }
     where
-      ok_same : (x y : Config) → Ok {T = Config} {E = Trouble} x ≡ Ok y → x ≡ y
+      ok_same : (x y : Config) → (let r : Result Config Trouble = Ok x in r ≡ Ok y) → x ≡ y
       ok_same x y e = cc
   goes_back _ next _ e (fails t) = absurd (apart t e)
     where
-      apart : (t : Trouble) → Err {T = Config} t ≡ Ok next → ⊥
+      apart : (t : Trouble) → (let r : Result Config Trouble = Err t in r ≡ Ok next) → ⊥
       apart t e = cc
 
   pub fails_on : (x : Result Driven Trouble) (t : Trouble) (r : Result Config Trouble) → x ≡ Err t → SameNext known g n closes x r → r ≡ Err t

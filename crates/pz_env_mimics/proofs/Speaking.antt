@@ -37,10 +37,10 @@ use Rattle.pz_env_mimics.proofs.Literals.{IsConstant, number_lasts, number_only,
 use Rattle.pz_env_mimics.proofs.PlainValues.{plain_parcel, only_plain_parcel, count_of}
 use Rattle.pz_env_mimics.proofs.Environment.{IsWaiting, not_begun, begun, behind, offering, called, IsDoing, finished, waiting_for, offering_it, place_of, IsAround, IsPart, itself, outer, part_waiting, part_offering, part_done, active_offering, active_in_sequence}
 
-pub ok_same : {A : Type 0} (x y : A) → Ok {T = A} {E = Trouble} x ≡ Ok y → x ≡ y
+pub ok_same : {A : Type 0} (x y : A) → (let r : Result A Trouble = Ok x in r ≡ Ok y) → x ≡ y
 ok_same x y e = cc
 
-pub ok_apart : {A : Type 0} (x : A) (t : Trouble) → Ok {T = A} {E = Trouble} x ≡ Err t → ⊥
+pub ok_apart : {A : Type 0} (x : A) (t : Trouble) → (let r : Result A Trouble = Ok x in r ≡ Err t) → ⊥
 ok_apart x t e = cc
 
 -- What is around another term does nothing of itself
@@ -96,14 +96,14 @@ pub done_never_delays : (a : Context) (g left : ℕ) → Delays a g done left �
 done_never_delays a g left is = elim is [ ]
 
 -- The context of the environment, with enough for a number
-module _ (a : Context) (paid : 1 ≤ a.setting.limits.units) (deep : 1 ≤ a.setting.limits.depth) where
+module _ (a : Context) (enough : 1 ≤ a.setting.limits.units) (deep : 1 ≤ a.setting.limits.depth) where
   pub plain_number : (f : ℕ) (x : Line) → IsPlain x → Lasts a f (at_line x) (expression.literal (at_line x) (literal.Int x.entry.wait)) (Ok (wait_of x.entry))
   plain_number f x plain =
-      subst (λ (n : ℤ). Lasts a f (at_line x) (expression.literal (at_line x) (literal.Int n)) (Ok (wait_of x.entry))) (sym plain.wait) (number_lasts a f (at_line x) deep paid (wait_of x.entry))
+      subst (λ (n : ℤ). Lasts a f (at_line x) (expression.literal (at_line x) (literal.Int n)) (Ok (wait_of x.entry))) (sym plain.wait) (number_lasts a f (at_line x) deep enough (wait_of x.entry))
 
   pub plain_number_only : (f : ℕ) (x : Line) → IsPlain x → (r : Result ℕ Trouble) → Lasts a f (at_line x) (expression.literal (at_line x) (literal.Int x.entry.wait)) r → r ≡ Ok (wait_of x.entry)
   plain_number_only f x plain r is =
-      number_only a f (at_line x) deep paid (wait_of x.entry) r (subst (λ (n : ℤ). Lasts a f (at_line x) (expression.literal (at_line x) (literal.Int n)) r) plain.wait is)
+      number_only a f (at_line x) deep enough (wait_of x.entry) r (subst (λ (n : ℤ). Lasts a f (at_line x) (expression.literal (at_line x) (literal.Int n)) r) plain.wait is)
 
   -- Waiting
 
@@ -221,7 +221,7 @@ module _ (a : Context) (paid : 1 ≤ a.setting.limits.units) (deep : 1 ≤ a.set
     pub more : a.setting.limits.units < length values
     pub is : trouble ≡ Spent a.process (at_line x)
 
-  err_same : {A : Type 0} (t u : Trouble) → Err {T = A} {E = Trouble} t ≡ Err u → t ≡ u
+  err_same : {A : Type 0} (t u : Trouble) → (let r : Result A Trouble = Err t in r ≡ Err u) → t ≡ u
   err_same t u e = cc
 
   pub exchange_lacks : (g p : ℕ) (x : Line) (transfer : Transfer) (trouble : Trouble) → All IsConstant (values_in transfer) → Asks a g (leaf (exchange p x transfer)) trouble → Lacks x transfer trouble
