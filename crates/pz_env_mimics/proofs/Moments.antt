@@ -36,6 +36,7 @@ use Rattle.pz_env_mimics.proofs.Mimics as mimics
 use Rattle.pz_env_mimics.proofs.Mimics.{Mimics, Fit, fit_plain}
 use Rattle.pz_env_mimics.proofs.Matching as matching
 use Rattle.pz_env_mimics.proofs.Matching.{of_system, of_env, SameActions, SameSources, parts, pairs}
+use Rattle.pz_env_mimics.proofs.Pairs as paired
 use Rattle.pz_env_mimics.proofs.Offers as both
 
 -- The height of the environment
@@ -78,7 +79,7 @@ module _ (known : Known) (g : Driving) (n : ModelTree) (closes : Closes g n) (d 
   seen = mimics.seen known g n closes d c m
 
   abbrev here : Place
-  here = both.here known g n closes d c m
+  here = paired.here known g n closes d c m
 
   abbrev env_there : End
   env_there = record { process = env; place = here }
@@ -97,13 +98,13 @@ module _ (known : Known) (g : Driving) (n : ModelTree) (closes : Closes g n) (d 
       low : Troubles g.setting d.system (part at) t → at.process < env
       low (system.asked _ a f k _ there asks) = known.parts_of g.setting d.system at a f k there
   trouble_on _ _ (driven.judged w s r message parcel t is says) =
-      let p = both.pair_on known g n closes d c m w s r message parcel is in (
+      let p = paired.pair_on known g n closes d c m w s r message parcel is in (
         pair w p.sender p.receiver,
         pairs w s p.sender r p.receiver p.same_sender p.same_receiver,
         system.judged w p.sender p.receiver message parcel t p.is (both.judged_on known g n closes d c m w s r p.receiver message parcel (Err t) is p.same_receiver says),
       )
   trouble_on _ _ (spent x rest values is sends more) =
-      let at = both.offered known g n closes d c m x rest is in (
+      let at = paired.offered known g n closes d c m x rest is in (
         part env_there,
         parts (environment_end g) env_there of_env,
         system.asked env_there seen 1 (leaf (exchange (port x) x x.entry.transfer)) (Spent env (at_line x)) at.part (asks_there seen closes.limits.units closes.limits.depth port Fits plain_lines x values at.fit sends more),
@@ -121,7 +122,7 @@ module _ (known : Known) (g : Driving) (n : ModelTree) (closes : Closes g n) (d 
       let h = asks_only seen closes.limits.units closes.limits.depth port Fits plain_lines d.environment.doing m.more.term at.place f k t e.is (subst (λ (b : Context). Asks b f k t) e.context asks) in
       (
         part (environment_end g),
-        subst (λ (b : End). SameSources env here [] (part b) (part (environment_end g))) (both.end_is known g n closes d c m at is h.there) (parts env_there (environment_end g) of_env),
+        subst (λ (b : End). SameSources env here [] (part b) (part (environment_end g))) (paired.end_is known g n closes d c m at is h.there) (parts env_there (environment_end g) of_env),
         subst (DrivenTroubles g d (part (environment_end g))) (sym h.trouble_is) (spent h.line h.rest h.values h.is h.sends h.more),
       )
 
@@ -129,7 +130,7 @@ module _ (known : Known) (g : Driving) (n : ModelTree) (closes : Closes g n) (d 
   trouble_back _ _ (system.asked at a f k t there asks) =
       part_trouble_back at a f k t there asks (mimics.which_part known g n closes d c m at a f k there)
   trouble_back _ _ (system.judged w s r message parcel t is says) =
-      let p = both.pair_back known g n closes d c m w s r message parcel is in (
+      let p = paired.pair_back known g n closes d c m w s r message parcel is in (
         pair w p.sender p.receiver,
         pairs w s p.sender r p.receiver (matching.end_back env [] here p.sender s p.same_sender) (matching.end_back env [] here p.receiver r p.same_receiver),
         driven.judged w p.sender p.receiver message parcel t p.is (both.judged_back known g n closes d c m p.receiver r parcel (Err t) p.same_receiver says),

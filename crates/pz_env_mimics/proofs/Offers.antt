@@ -38,9 +38,7 @@ use Rattle.pz_env_mimics.proofs.Mimics as mimics
 use Rattle.pz_env_mimics.proofs.Mimics.{Mimics, Fit, fit_plain}
 use Rattle.pz_env_mimics.proofs.Matching as matching
 use Rattle.pz_env_mimics.proofs.Matching.{SameEnds, of_system, of_env, SameActions, internal, communication, Whole, whole_other}
-
-offers_same : (x y : Line) (r s : List Line) → offers x r ≡ offers y s → (x ≡ y) × (r ≡ s)
-offers_same x y r s e = (cc, cc)
+use Rattle.pz_env_mimics.proofs.Pairs as paired
 
 module _ (known : Known) (g : Driving) (n : ModelTree) (closes : Closes g n) (d : Driven) (c : Config) (m : Mimics known g n closes d c) where
   abbrev env : ℕ
@@ -68,236 +66,15 @@ module _ (known : Known) (g : Driving) (n : ModelTree) (closes : Closes g n) (d 
   abbrev env_there : End
   env_there = record { process = env; place = here }
 
-  low_of : (at : End) (a : Context) (f : ℕ) (t : Term) → PartAt g.setting d.system at a f t → at.process < env
-  low_of at a f t is = known.parts_of g.setting d.system at a f t is
-
-  part_on : (at : End) (a : Context) (f : ℕ) (t : Term) → PartAt g.setting d.system at a f t → PartAt (closed g n) c at (seen_in n a) f t
-  part_on at a f t is = (known.parts_stand n g.setting d.system c m.more closes.rules m.both at f t).0 a is
-
-  part_back : (at : End) (a : Context) (f : ℕ) (t : Term) → at.process < env → PartAt (closed g n) c at a f t → PartAt g.setting d.system at (seen_in g.setting.model a) f t
-  part_back at a f t low is =
-      (known.parts_stand n g.setting d.system c m.more closes.rules m.both at f t).1 a low is
-
-  -- Sends of the system
-
-  seen_again : (a : Context) → a.setting ≡ closed g n → seen_in n (seen_in g.setting.model a) ≡ a
-  seen_again a e =
-      ap (λ (s : Setting). let b : Context = record { setting = s; process = a.process; class = a.class; clock = a.clock; state = a.state } in b)
-      (ap (λ (s : Setting). in_model n s) e ∙ sym e)
-
-  setting_of : (at : End) (a : Context) (f : ℕ) (t : Term) → PartAt (closed g n) c at a f t → a.setting ≡ closed g n
-  setting_of at a f t is = ap (λ (b : Context). b.setting) is.stands.seen
-
-  sends_on : (at : End) (a : Context) (f : ℕ) (t : Term) (pos : Pos) (number : ℕ) (message : List ℕ) (parcel : ParcelView) → PartAt g.setting d.system at a f t → Sends a f t pos number message parcel → Sends (seen_in n a) f t pos number message parcel
-  sends_on at a f t pos number message parcel is =
-      (known.sends n a f t pos number message parcel (known.sees n g.setting d.system at.process is.process a closes.rules is.stands)).0
-
-  sends_back : (at : End) (a : Context) (f : ℕ) (t : Term) (pos : Pos) (number : ℕ) (message : List ℕ) (parcel : ParcelView) → at.process < env → PartAt (closed g n) c at a f t → Sends a f t pos number message parcel
-      → Sends (seen_in g.setting.model a) f t pos number message parcel
-  sends_back at a f t pos number message parcel low is says =
-      let old = part_back at a f t low is in
-      (known.sends n (seen_in g.setting.model a) f t pos number message parcel (known.sees n g.setting d.system at.process old.process (seen_in g.setting.model a) closes.rules old.stands)).1
-      (subst (λ (b : Context). Sends b f t pos number message parcel) (sym (seen_again a (setting_of at a f t is))) says)
-
-  -- The environment xs a part
-
-  limits_units : 1 ≤ seen.setting.limits.units
-  limits_units = closes.limits.units
-
-  limits_depth : 1 ≤ seen.setting.limits.depth
-  limits_depth = closes.limits.depth
-
-  plain_lines : (x : Line) → Fits x → IsPlain x
-  plain_lines = fit_plain known g n closes
-
-  -- offered in the driven system, it is there xs a part
-  pub record IsOffered (x : Line) (rest : List Line) : Type 0 where
-    pub fit : Fits x
-    pub part : PartAt (closed g n) c env_there seen 1 (leaf (exchange (port x) x x.entry.transfer))
-
-  pub offered : (x : Line) (rest : List Line) → d.environment.doing ≡ offers x rest → IsOffered x rest
-  offered x rest is =
-      let at = offers_there seen limits_units limits_depth port Fits plain_lines x rest m.more.term (subst (λ (k : Doing). IsDoing port Fits k m.more.term) is m.does) in
-      record {
-        fit = at.fit;
-        part = mimics.part_there known g n closes d c m here (leaf (exchange (port x) x x.entry.transfer)) (subst (λ (k : Place). IsActive seen m.more.term k 1 (leaf (exchange (port x) x x.entry.transfer))) (sym (ap place_of is)) at.active);
-      }
-
-  -- the one end of the environment that says something
-  pub end_is : (at : End) → at.process ≡ env → at.place ≡ here → env_there ≡ at
-  end_is at p q =
-      sym (ap (λ (k : ℕ). let e : End = record { process = k; place = at.place } in e) p ∙ ap (λ (k : Place). let e : End = record { process = env; place = k } in e) q)
-
-  -- Pairs
-
-  pub record PairOn (w : ℕ) (s r : End) (message : List ℕ) (parcel : ParcelView) : Type 0 where
-    pub sender : End
-    pub receiver : End
-    pub same_sender : Ends s sender
-    pub same_receiver : Ends r receiver
-    pub is : IsPair (closed g n) c w sender receiver message parcel
-
-  pub pair_on : (w : ℕ) (s r : End) (message : List ℕ) (parcel : ParcelView) → IsDrivenPair g d w s r message parcel → PairOn w s r message parcel
-  pair_on w s r message parcel (of_processes _ _ _ _ _ is) =
-      let low = low_of s is.sends_at is.sends_frame is.sends_part is.sender_active in
-      let less = low_of r is.receives_at is.receives_frame is.receives_part is.receiver_active in
-      record {
-        sender = s;
-        receiver = r;
-        same_sender = of_system s low;
-        same_receiver = of_system r less;
-        is = (known.pairs n g.setting d.system c m.more closes.rules m.both w s r message parcel low less).0 is;
-      }
-  pair_on w _ r _ _ (to_system _ _ x rest values gives on hears) =
-      let at = offered x rest gives.doing in
-      let less = low_of r hears.seen hears.frame hears.part hears.active in
-      record {
-        sender = env_there;
-        receiver = r;
-        same_sender = of_env;
-        same_receiver = of_system r less;
-        is = record {
-          sends_at = seen;
-          sends_frame = 1;
-          sends_part = leaf (exchange (port x) x x.entry.transfer);
-          sender_active = at.part;
-          sends_pos = at_line x;
-          sends_port = port x;
-          sends = sends_there seen limits_units limits_depth port Fits plain_lines x values at.fit gives.sends gives.paid;
-          receives_at = seen_in n hears.seen;
-          receives_frame = hears.frame;
-          receives_part = hears.part;
-          receiver_active = part_on r hears.seen hears.frame hears.part hears.active;
-          receives_pos = hears.pos;
-          receives_port = hears.port;
-          receives = hears.receives;
-          two = λ e. omega (arith, less, e);
-          sender_wire = (at.fit.wires w).1 on;
-          receiver_wire = (closes.rules.wires r.process hears.port w less).0 hears.on;
-        };
-      }
-  pair_on w s _ _ parcel (from_system _ _ x rest _ gets on says) =
-      let at = offered x rest gets.doing in
-      let low = low_of s says.seen says.frame says.part says.active in
-      record {
-        sender = s;
-        receiver = env_there;
-        same_sender = of_system s low;
-        same_receiver = of_env;
-        is = record {
-          sends_at = seen_in n says.seen;
-          sends_frame = says.frame;
-          sends_part = says.part;
-          sender_active = part_on s says.seen says.frame says.part says.active;
-          sends_pos = says.pos;
-          sends_port = says.port;
-          sends = sends_on s says.seen says.frame says.part says.pos says.port x.entry.message parcel says.active says.sends;
-          receives_at = seen;
-          receives_frame = 1;
-          receives_part = leaf (exchange (port x) x x.entry.transfer);
-          receiver_active = at.part;
-          receives_pos = at_line x;
-          receives_port = port x;
-          receives = receives_there seen limits_units limits_depth port Fits plain_lines x (length parcel.values) gets.receives;
-          two = λ e. omega (arith, low, e);
-          sender_wire = (closes.rules.wires s.process says.port w low).0 says.on;
-          receiver_wire = (at.fit.wires w).1 on;
-        };
-      }
-
-  pub record PairBack (w : ℕ) (s r : End) (message : List ℕ) (parcel : ParcelView) : Type 0 where
-    pub sender : End
-    pub receiver : End
-    pub same_sender : Ends sender s
-    pub same_receiver : Ends receiver r
-    pub is : IsDrivenPair g d w sender receiver message parcel
-
-  -- the sender is the environment
-  from_env : (w : ℕ) (s r : End) (message : List ℕ) (parcel : ParcelView) → IsPair (closed g n) c w s r message parcel → s.process ≡ env → r.process < env → PairBack w s r message parcel
-  from_env w s r message parcel is at less =
-      let e = mimics.env_part known g n closes d c m s is.sends_at is.sends_frame is.sends_part is.sender_active at in
-      let says : Sends seen is.sends_frame is.sends_part is.sends_pos is.sends_port message parcel =
-      subst (λ (a : Context). Sends a is.sends_frame is.sends_part is.sends_pos is.sends_port message parcel) e.context is.sends
-      in
-      let h = sends_only seen limits_units limits_depth port Fits plain_lines d.environment.doing m.more.term s.place is.sends_frame is.sends_part is.sends_pos is.sends_port message parcel e.is says in
-      let hears : Hears g d r w message (length parcel.values) = record {
-        seen = seen_in g.setting.model is.receives_at;
-        frame = is.receives_frame;
-        part = is.receives_part;
-        active = part_back r is.receives_at is.receives_frame is.receives_part less is.receiver_active;
-        pos = is.receives_pos;
-        port = is.receives_port;
-        receives = is.receives;
-        on = (closes.rules.wires r.process is.receives_port w less).1 is.receiver_wire;
-      } in
-      let on : IsWireOf g h.line w =
-      (h.fit.wires w).0 (subst (λ (k : ℕ). IsWire n env k w) h.over_it (subst (λ (k : ℕ). IsWire n k is.sends_port w) at is.sender_wire))
-      in
-      record {
-        sender = environment_end g;
-        receiver = r;
-        same_sender = subst (Ends (environment_end g)) (end_is s at h.there) of_env;
-        same_receiver = of_system r less;
-        is =
-            subst (λ (p : ParcelView). IsDrivenPair g d w (environment_end g) r message p) (sym h.parcel_is)
-            (subst (λ (k : List ℕ). IsDrivenPair g d w (environment_end g) r k (record { values = h.values; objects = [] })) (sym h.name)
-            (to_system w r h.line h.rest h.values (record { doing = h.is; sends = h.sends; paid = h.paid }) on
-            (subst (λ (k : List ℕ). Hears g d r w k (length h.values)) h.name (subst (λ (p : ParcelView). Hears g d r w message (length p.values)) h.parcel_is hears))));
-      }
-
-  -- the receiver is
-  into_env : (w : ℕ) (s r : End) (message : List ℕ) (parcel : ParcelView) → IsPair (closed g n) c w s r message parcel → s.process < env → r.process ≡ env → PairBack w s r message parcel
-  into_env w s r message parcel is low at =
-      let e = mimics.env_part known g n closes d c m r is.receives_at is.receives_frame is.receives_part is.receiver_active at in
-      let h = receives_only seen limits_units limits_depth port Fits plain_lines d.environment.doing m.more.term r.place is.receives_frame is.receives_part is.receives_pos is.receives_port message (length parcel.values) e.is is.receives in
-      let says : Says g d s w message parcel = record {
-        seen = seen_in g.setting.model is.sends_at;
-        frame = is.sends_frame;
-        part = is.sends_part;
-        active = part_back s is.sends_at is.sends_frame is.sends_part low is.sender_active;
-        pos = is.sends_pos;
-        port = is.sends_port;
-        sends = sends_back s is.sends_at is.sends_frame is.sends_part is.sends_pos is.sends_port message parcel low is.sender_active is.sends;
-        on = (closes.rules.wires s.process is.sends_port w low).1 is.sender_wire;
-      } in
-      let on : IsWireOf g h.line w =
-      (h.fit.wires w).0 (subst (λ (k : ℕ). IsWire n env k w) h.over_it (subst (λ (k : ℕ). IsWire n k is.receives_port w) at is.receiver_wire))
-      in
-      record {
-        sender = s;
-        receiver = environment_end g;
-        same_sender = of_system s low;
-        same_receiver = subst (Ends (environment_end g)) (end_is r at h.there) of_env;
-        is =
-            subst (λ (k : List ℕ). IsDrivenPair g d w s (environment_end g) k parcel) (sym h.name)
-            (from_system w s h.line h.rest parcel (record { doing = h.is; receives = h.receives }) on (subst (λ (k : List ℕ). Says g d s w k parcel) h.name says));
-      }
-
-  pub pair_back : (w : ℕ) (s r : End) (message : List ℕ) (parcel : ParcelView) → IsPair (closed g n) c w s r message parcel → PairBack w s r message parcel
-  pair_back w s r message parcel is =
-      by (mimics.which_part known g n closes d c m s is.sends_at is.sends_frame is.sends_part is.sender_active) (mimics.which_part known g n closes d c m r is.receives_at is.receives_frame is.receives_part is.receiver_active)
-    where
-      by : (s.process < env) ⊎ (s.process ≡ env) → (r.process < env) ⊎ (r.process ≡ env) → PairBack w s r message parcel
-      by (inl low) (inl less) = record {
-        sender = s;
-        receiver = r;
-        same_sender = of_system s low;
-        same_receiver = of_system r less;
-        is = of_processes w s r message parcel ((known.pairs n g.setting d.system c m.more closes.rules m.both w s r message parcel low less).1 is);
-      }
-      by (inr at) (inl less) = from_env w s r message parcel is at less
-      by (inl low) (inr at) = into_env w s r message parcel is low at
-      by (inr one) (inr other) = absurd (is.two (one ∙ sym other))
-
   -- Verdicts
 
   env_receives : (w : ℕ) (s r : End) (message : List ℕ) (parcel : ParcelView) → IsDrivenPair g d w s r message parcel → r ≡ environment_end g → IsJudged (closed g n) c env_there parcel (Ok true)
   env_receives w s r message parcel (of_processes _ _ _ _ _ is) same =
-      let less = low_of r is.receives_at is.receives_frame is.receives_part is.receiver_active in
+      let less = paired.low_of known g n closes d c m r is.receives_at is.receives_frame is.receives_part is.receiver_active in
       let at : r.process ≡ env = ap (λ (e : End). e.process) same in
       absurd (omega (arith, less, at))
   env_receives w _ r _ _ (to_system _ _ x rest values gives on hears) same =
-      let less = low_of r hears.seen hears.frame hears.part hears.active in
+      let less = paired.low_of known g n closes d c m r hears.seen hears.frame hears.part hears.active in
       let at : r.process ≡ env = ap (λ (e : End). e.process) same in
       absurd (omega (arith, less, at))
   env_receives w s _ _ parcel (from_system _ _ x rest _ gets on says) same =
@@ -305,13 +82,13 @@ module _ (known : Known) (g : Driving) (n : ModelTree) (closes : Closes g n) (d 
         seen = seen;
         frame = 1;
         part = leaf (exchange (port x) x x.entry.transfer);
-        active = (offered x rest gets.doing).part;
-        judges = judges_there seen limits_units limits_depth port Fits plain_lines x (length parcel.values) parcel gets.receives;
+        active = (paired.offered known g n closes d c m x rest gets.doing).part;
+        judges = judges_there seen closes.limits.units closes.limits.depth port Fits (fit_plain known g n closes) x (length parcel.values) parcel gets.receives;
       }
 
   pub judged_on : (w : ℕ) (s r u : End) (message : List ℕ) (parcel : ParcelView) (verdict : Result Bool Trouble) → IsDrivenPair g d w s r message parcel → Ends r u → IsDrivenJudged g d r parcel verdict → IsJudged (closed g n) c u parcel verdict
   judged_on w s r u message parcel verdict pair same (by_process _ _ _ is) =
-      let low = low_of r is.seen is.frame is.part is.active in
+      let low = paired.low_of known g n closes d c m r is.seen is.frame is.part is.active in
       subst (λ (e : End). IsJudged (closed g n) c e parcel verdict) (matching.one_end env [] here r r r u (of_system r low) same refl)
       ((known.verdicts n g.setting d.system c m.more closes.rules m.both r parcel verdict low).0 is)
   judged_on w s _ u message parcel _ pair same (by_environment _) =
@@ -326,7 +103,7 @@ module _ (known : Known) (g : Driving) (n : ModelTree) (closes : Closes g n) (d 
       let judges : Judges seen is.frame parcel is.part verdict =
       subst (λ (a : Context). Judges a is.frame parcel is.part verdict) e.context is.judges
       in
-      let says = judges_only seen limits_units limits_depth port Fits plain_lines d.environment.doing m.more.term here is.frame is.part parcel verdict e.is judges in
+      let says = judges_only seen closes.limits.units closes.limits.depth port Fits (fit_plain known g n closes) d.environment.doing m.more.term here is.frame is.part parcel verdict e.is judges in
       subst (IsDrivenJudged g d (environment_end g) parcel) (sym says) (by_environment parcel)
 
   -- Offers
@@ -335,9 +112,9 @@ module _ (known : Known) (g : Driving) (n : ModelTree) (closes : Closes g n) (d 
   offer_on _ (acts at kind pos is) = (Internal at kind pos, internal at at kind pos (of_system at (low is)), (known.internals n g.setting d.system c m.more closes.rules m.both at kind pos (low is)).0 is)
     where
       low : Offers g.setting d.system (Internal at kind pos) → at.process < env
-      low (system.internal _ a f t _ _ part can) = low_of at a f t part
+      low (system.internal _ a f t _ _ part can) = paired.low_of known g n closes d c m at a f t part
   offer_on _ (expires x rest is) =
-      let e = expires_there seen limits_units limits_depth port Fits plain_lines x rest m.more.term (subst (λ (k : Doing). IsDoing port Fits k m.more.term) is m.does) in
+      let e = expires_there seen closes.limits.units closes.limits.depth port Fits (fit_plain known g n closes) x rest m.more.term (subst (λ (k : Doing). IsDoing port Fits k m.more.term) is m.does) in
       let place : here ≡ 0 ∷ 0 ∷ [] = ap place_of is in
       (
         Internal env_there Expire (at_line x),
@@ -345,7 +122,7 @@ module _ (known : Known) (g : Driving) (n : ModelTree) (closes : Closes g n) (d 
         system.internal env_there seen 1 e.part Expire (at_line x) (mimics.part_there known g n closes d c m here e.part (subst (λ (k : Place). IsActive seen m.more.term k 1 e.part) (sym place) e.active)) e.can,
       )
   offer_on _ (communicates w s r message parcel is takes) =
-      let p = pair_on w s r message parcel is in (
+      let p = paired.pair_on known g n closes d c m w s r message parcel is in (
         Comm w p.sender p.receiver message parcel,
         communication w s p.sender r p.receiver message parcel p.same_sender p.same_receiver,
         system.communication w p.sender p.receiver message parcel p.is (judged_on w s r p.receiver message parcel (Ok true) is p.same_receiver takes),
@@ -362,9 +139,9 @@ module _ (known : Known) (g : Driving) (n : ModelTree) (closes : Closes g n) (d 
       )
       by (inr is) =
           let e = mimics.env_part known g n closes d c m at a f t part is in
-          let h = can_only seen limits_units limits_depth port Fits plain_lines d.environment.doing m.more.term at.place f t kind pos e.is (subst (λ (b : Context). Can b f t kind pos) e.context can) in
+          let h = can_only seen closes.limits.units closes.limits.depth port Fits (fit_plain known g n closes) d.environment.doing m.more.term at.place f t kind pos e.is (subst (λ (b : Context). Can b f t kind pos) e.context can) in
           let same : Internal env_there Expire (at_line h.line) ≡ Internal at kind pos =
-          ap (λ (x : End). Internal x Expire (at_line h.line)) (end_is at is h.there)
+          ap (λ (x : End). Internal x Expire (at_line h.line)) (paired.end_is known g n closes d c m at is h.there)
           ∙ ap (λ (k : Kind). Internal at k (at_line h.line)) (sym h.expires)
           ∙ ap (λ (x : Pos). Internal at kind x) (sym h.at_it)
           in (
@@ -373,7 +150,7 @@ module _ (known : Known) (g : Driving) (n : ModelTree) (closes : Closes g n) (d 
             expires h.line h.rest h.is,
           )
   offer_back _ (system.communication w s r message parcel is takes) =
-      let p = pair_back w s r message parcel is in (
+      let p = paired.pair_back known g n closes d c m w s r message parcel is in (
         Comm w p.sender p.receiver message parcel,
         communication w s p.sender r p.receiver message parcel (matching.end_back env [] here p.sender s p.same_sender) (matching.end_back env [] here p.receiver r p.same_receiver),
         communicates w p.sender p.receiver message parcel p.is (judged_back p.receiver r parcel (Ok true) p.same_receiver takes),

@@ -33,7 +33,7 @@ use Rattle.pz_env_mimics.specs.Closing.{Closes, closed}
 use Rattle.pz_env_mimics.proofs.Known.{Known}
 use Rattle.pz_env_mimics.proofs.Environment.{IsDoing}
 use Rattle.pz_env_mimics.proofs.Environment as environment
-use Rattle.pz_env_mimics.proofs.Moving.{whole_then, begins_so}
+use Rattle.pz_env_mimics.proofs.Settling.{whole_then, begins_so}
 use Rattle.pz_env_mimics.proofs.Mimics as mimics
 use Rattle.pz_env_mimics.proofs.Mimics.{Mimics, Fit, got_last}
 

@@ -1,0 +1,164 @@
+-- What an action leads to in both is the same.
+use Rattle.std.proofs.Common.{◌≡◌, ◌<◌, ◌≤◌, ◌+◌, ◌⊎◌, inl, inr, ℕ, Bool, true, false, List, [], ◌∷◌, ◌++◌, length, Some, Result, Ok, Err, slice_get, slice_set, refl, sym, ap, subst, ◌∙◌, arith, nat_le, if◌then◌else◌}
+use Rattle.std.proofs.lemmas.Bool.{le-leb, leb-true}
+use Rattle.std.proofs.lemmas.Option.{slice_get_within}
+use Rattle.pz_syntax.specs.declared.tokens.Pos.{Pos}
+use Rattle.pz_syntax.specs.Classes.{ModelTree}
+use Rattle.pz_value.specs.declared.value.Value.{Value}
+use Rattle.pz_bind_levels.specs.Places.{Address}
+use Rattle.pz_bind.specs.Nest.{processes}
+use Rattle.pz_state.specs.States.{object_limit}
+use Rattle.pz_state.specs.declared.fault.FaultKind.TheVariants.{StoreFull}
+use Rattle.pz_copy.specs.Parcels.{ParcelView}
+use Rattle.pz_offer.specs.declared.end.End.{End}
+use Rattle.pz_offer.specs.PlaceOrder.{Place}
+use Rattle.pz_offer.specs.declared.trouble.Trouble.{Trouble}
+use Rattle.pz_offer.specs.declared.trouble.Trouble.TheVariants.{Fault}
+use Rattle.pz_rules.specs.declared.action.Kind.{Kind}
+use Rattle.pz_rules.specs.declared.action.Kind.TheVariants.{Expire}
+use Rattle.pz_rules.specs.declared.action.Action.{Action}
+use Rattle.pz_rules.specs.declared.action.Action.TheVariants.{Internal, Comm}
+use Rattle.pz_rules.specs.Terms.{Term, leaf}
+use Rattle.pz_rules.specs.Settings.{Setting, Process, Context, left_by}
+use Rattle.pz_rules.specs.Active.{IsActive}
+use Rattle.pz_rules.specs.Meanings.{and_then, fault}
+use Rattle.pz_rules.specs.InternalActions.{done_in, Performs}
+use Rattle.pz_rules.specs.Leaving.{settled}
+use Rattle.pz_rules.specs.Messages.{Fits, Hands, Takes}
+use Rattle.pz_rules.specs.Delays.{Passes}
+use Rattle.pz_rules.specs.Configurations.{Config, Stands, IsWhole}
+use Rattle.pz_rules.specs.Offers as offered
+use Rattle.pz_rules.specs.Offers.{PartAt, Offers}
+use Rattle.pz_rules.specs.Steps as system
+use Rattle.pz_rules.specs.Steps.{Deed, Acts, with_process, with_both, Next, PassesTo}
+use Rattle.pz_env_script.specs.declared.entry.Transfer.{Transfer}
+use Rattle.pz_env_script.specs.declared.entry.Transfer.TheVariants.{Send, Receive}
+use Rattle.pz_env_rules.specs.Environment.{Line, at_line, Doing, waits, offers, begins, later, Environment}
+use Rattle.pz_env_rules.specs.Joining.{Driving}
+use Rattle.pz_env_rules.specs.Driven.{Driven, environment_number, environment_end, plain, Gives, Gets, stored}
+use Rattle.pz_env_rules.specs.Offers.{IsDrivenPair, of_processes, to_system, from_system, DrivenOffers, acts, expires, communicates}
+use Rattle.pz_env_rules.specs.Steps as driven
+use Rattle.pz_env_rules.specs.Steps.{in_system, doing_next, both_next, DrivenNext, DrivenPasses}
+use Rattle.pz_env_same.specs.OneMore.{OneMore, behind, result_behind, IsOf, IsActionOf}
+use Rattle.pz_env_tree.specs.EnvironmentClass.{first_place}
+use Rattle.pz_env_mimics.specs.Environments.{exchange, IsPlain}
+use Rattle.pz_env_mimics.specs.Closing.{Closes, closed}
+use Rattle.pz_env_mimics.proofs.Known.{Known}
+use Rattle.pz_env_mimics.proofs.Environment.{IsDoing, place_of}
+use Rattle.pz_env_mimics.proofs.Doing.{PartIs, offers_there}
+use Rattle.pz_env_mimics.proofs.Moving as moving
+use Rattle.pz_env_mimics.proofs.Elapsing as elapsing
+use Rattle.pz_env_mimics.proofs.Moving.{Becomes, TakenOr, fits_in, too_full}
+use Rattle.pz_env_mimics.proofs.Mimics as mimics
+use Rattle.pz_env_mimics.proofs.Mimics.{Mimics, Fit, fit_plain}
+use Rattle.pz_env_mimics.proofs.Matching.{one_end, SameEnds, of_system, of_env, SameActions, internal, communication}
+use Rattle.pz_env_mimics.proofs.Pairs as paired
+use Rattle.pz_env_mimics.proofs.Offers as both
+
+never : (b : Bool) → (b ≡ true → ⊥) → b ≡ false
+never true apart = absurd (apart refl)
+never false apart = refl
+
+module _ (known : Known) (g : Driving) (n : ModelTree) (closes : Closes g n) where
+  abbrev env : ℕ
+  env = mimics.env known g n closes
+
+  abbrev port : Line → ℕ
+  port = mimics.port known g n closes
+
+  abbrev Fits_line : Line → Type 0
+  Fits_line = Fit known g n closes
+
+  abbrev Both : Driven → Config → Type 0
+  Both = Mimics known g n closes
+
+  -- the same outcome
+  pub data SameNext : Result Driven Trouble → Result Config Trouble → Type 0 where
+    goes : (d : Driven) (c : Config) → Both d c → SameNext (Ok d) (Ok c)
+    fails : (t : Trouble) → SameNext (Err t) (Err t)
+
+  module _ (d : Driven) (c : Config) (m : Both d c) where
+    abbrev seen : Context
+    seen = mimics.seen known g n closes d c m
+
+    abbrev here : Place
+    here = paired.here known g n closes d c m
+
+    abbrev env_there : End
+    env_there = record { process = env; place = here }
+
+    abbrev Turns : Doing → ℕ → Result Process Trouble → Type 0
+    Turns = Becomes port Fits_line
+
+    -- of an action of the system
+    pub system_next : (r : Result Config Trouble) → ((k : Config) → r ≡ Ok k → IsWhole g.setting k) → SameNext (and_then r (λ k. Ok (in_system d k))) (result_behind r m.more)
+    system_next (Ok k) is_whole =
+        goes (in_system d k) (behind k m.more) (record { more = m.more; both = record { whole = is_whole k refl; clock = refl; processes = refl }; does = m.does; has = m.has })
+    system_next (Err t) is_whole = fails t
+
+    pub still_whole : (a : Action) (r : Result Config Trouble) → Next g.setting d.system a r → (k : Config) → r ≡ Ok k → IsWhole g.setting k
+    still_whole a r next k e =
+        (known.stays_whole g.setting d.system k a 0 m.both.whole).0 (subst (Next g.setting d.system a) e next)
+
+    -- of the end of a wait
+    pub wait_next : (x : Line) (rest : List Line) (r : Result Process Trouble) → Turns (offers x rest) (length m.more.state.objects) r → SameNext (Ok (doing_next d (offers x rest))) (and_then r (λ p. Ok (with_process c env p)))
+    wait_next x rest r is =
+        subst (SameNext (Ok (doing_next d (offers x rest)))) (ap (λ (q : Result Process Trouble). and_then q (λ p. Ok (with_process c env p))) (sym is.is))
+        (goes (doing_next d (offers x rest)) (with_process c env is.process) (record {
+          more = is.process;
+          both = known.more_becomes g.setting d.system c m.more is.process m.both;
+          does = is.does;
+          has = is.has ∙ m.has;
+        }))
+
+    -- of a send of the environment
+    pub give_next : (r : End) (rest : List Line) (sent taken : Result Process Trouble) → r.process < env → Turns (begins rest) (length m.more.state.objects) sent
+        → SameNext (and_then taken (λ q. Ok (both_next d r.process q (record { doing = begins rest; objects = d.environment.objects }))))
+        (and_then sent (λ p. and_then taken (λ q. Ok (with_both c env_there r p q))))
+    give_next r rest sent taken low is =
+        subst (λ (s : Result Process Trouble). SameNext (and_then taken (λ q. Ok (both_next d r.process q (record { doing = begins rest; objects = d.environment.objects })))) (and_then s (λ p. and_then taken (λ q. Ok (with_both c env_there r p q)))))
+        (sym is.is)
+        (by taken)
+      where
+        by : (t : Result Process Trouble) → SameNext (and_then t (λ q. Ok (both_next d r.process q (record { doing = begins rest; objects = d.environment.objects })))) (and_then t (λ q. Ok (with_both c env_there r is.process q)))
+        by (Ok q) =
+            let one = known.more_becomes g.setting d.system c m.more is.process m.both in
+            goes (both_next d r.process q (record { doing = begins rest; objects = d.environment.objects })) (with_both c env_there r is.process q) (record {
+              more = is.process;
+              both = known.becomes g.setting d.system (with_process c env is.process) is.process r.process q low one;
+              does = is.does;
+              has = is.has ∙ m.has;
+            })
+        by (Err t) = fails t
+
+    -- of a receive of the environment
+    pub get_next : (s : End) (x : Line) (rest : List Line) (parcel : ParcelView) (sent taken : Result Process Trouble) → s.process < env → TakenOr seen port Fits_line x rest parcel taken
+        → SameNext (and_then sent (λ p. and_then (stored g d x parcel) (λ k. Ok (both_next d s.process p (record { doing = begins rest; objects = k })))))
+        (and_then sent (λ p. and_then taken (λ q. Ok (with_both c s env_there p q))))
+    get_next s x rest parcel (Err t) taken low is = fails t
+    get_next s x rest parcel (Ok p) taken low (fits_in room is) =
+        let count : d.environment.objects + length parcel.objects ≡ length m.more.state.objects + length parcel.objects = ap (λ (k : ℕ). k + length parcel.objects) (sym m.has) in
+        let roomy : nat_le (d.environment.objects + length parcel.objects) object_limit ≡ true = le-leb (d.environment.objects + length parcel.objects) object_limit (omega (arith, count, room)) in
+        let is_stored : stored g d x parcel ≡ Ok (d.environment.objects + length parcel.objects) =
+        ap (λ (b : Bool). if b then Ok (d.environment.objects + length parcel.objects) else fault StoreFull env (at_line x)) roomy
+        in
+        let one = known.becomes g.setting d.system c m.more s.process p low m.both in
+        subst (λ (k : Result ℕ Trouble). SameNext (and_then k (λ k. Ok (both_next d s.process p (record { doing = begins rest; objects = k })))) (and_then taken (λ q. Ok (with_both c s env_there p q)))) (sym is_stored)
+        (subst (λ (t : Result Process Trouble). SameNext (Ok (both_next d s.process p (record { doing = begins rest; objects = d.environment.objects + length parcel.objects }))) (and_then t (λ q. Ok (with_both c s env_there p q)))) (sym is.is)
+        (goes (both_next d s.process p (record { doing = begins rest; objects = d.environment.objects + length parcel.objects })) (with_both c s env_there p is.process) (record {
+          more = is.process;
+          both = known.more_becomes g.setting (with_process d.system s.process p) (with_process c s.process p) m.more is.process one;
+          does = is.does;
+          has = is.has ∙ sym count;
+        })))
+    get_next s x rest parcel (Ok p) taken low (too_full unfit is) =
+        let count : d.environment.objects + length parcel.objects ≡ length m.more.state.objects + length parcel.objects = ap (λ (k : ℕ). k + length parcel.objects) (sym m.has) in
+        let full : nat_le (d.environment.objects + length parcel.objects) object_limit ≡ false = never (nat_le (d.environment.objects + length parcel.objects) object_limit) (λ e. too_many count unfit (leb-true (d.environment.objects + length parcel.objects) object_limit e)) in
+        let is_stored : stored g d x parcel ≡ fault StoreFull env (at_line x) =
+        ap (λ (b : Bool). if b then Ok (d.environment.objects + length parcel.objects) else fault StoreFull env (at_line x)) full
+        in
+        subst (λ (k : Result ℕ Trouble). SameNext (and_then k (λ k. Ok (both_next d s.process p (record { doing = begins rest; objects = k })))) (and_then taken (λ q. Ok (with_both c s env_there p q)))) (sym is_stored)
+        (subst (λ (t : Result Process Trouble). SameNext (fault StoreFull env (at_line x)) (and_then t (λ q. Ok (with_both c s env_there p q)))) (sym is) (fails (Fault StoreFull env (at_line x))))
+      where
+        too_many : d.environment.objects + length parcel.objects ≡ length m.more.state.objects + length parcel.objects → ¬ Fits seen parcel → d.environment.objects + length parcel.objects ≤ object_limit → ⊥
+        too_many count unfit fits = unfit (omega (arith, count, fits))
