@@ -1,13 +1,10 @@
 -- What a policy chooses of both is the same.
 use Rattle.std.proofs.Common.{◌≡◌, ℕ, suc, List, [], ◌∷◌, Ok, Err, refl, sym, ap, subst, ◌∙◌}
-use Rattle.std.specs.List.{AllZip}
 use Rattle.pz_syntax.specs.Classes.{ModelTree}
-use Rattle.pz_offer.specs.declared.trouble.Trouble.{Trouble}
-use Rattle.pz_rules.specs.declared.action.Action.{Action}
 use Rattle.pz_rules.specs.declared.moment.Moment.{Moment}
 use Rattle.pz_rules.specs.Configurations.{Config}
 use Rattle.pz_rules.specs.Steps.{Next}
-use Rattle.pz_rules.specs.Runs.{Event, acted, passed, Ending, troubled}
+use Rattle.pz_rules.specs.Runs.{Event, acted, passed, Ending}
 use Rattle.pz_rules.specs.ChosenRuns as chosen
 use Rattle.pz_rules.specs.ChosenRuns.{Policy, Decision, decided, stops_with, takes, waits, IsChosenRun}
 use Rattle.pz_env_rules.specs.Joining.{Driving}
@@ -19,7 +16,6 @@ use Rattle.pz_env_mimics.specs.Closing.{Closes, closed, SameEvents}
 use Rattle.pz_env_mimics.proofs.Known.{Known}
 use Rattle.pz_env_mimics.proofs.Mimics.{Mimics}
 use Rattle.pz_env_mimics.proofs.Pairs as paired
-use Rattle.pz_env_mimics.proofs.Offers as both
 use Rattle.pz_env_mimics.proofs.Moments.{moment_on, moment_back}
 use Rattle.pz_env_mimics.proofs.Nexts.{next_on, next_back}
 use Rattle.pz_env_mimics.proofs.Passing.{passes_on, passes_back}

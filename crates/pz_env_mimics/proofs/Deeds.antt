@@ -1,7 +1,6 @@
 -- What the acting part of the environment does.
-use Rattle.std.proofs.Common.{◌≡◌, ◌<◌, ◌≤◌, ◌+◌, ◌-◌, ◌⊎◌, inl, inr, ℕ, Bool, true, false, List, [], ◌∷◌, length, replicate, Some, None, Result, Ok, Err, All, refl, sym, ap, subst, ◌∙◌, arith, if◌then◌else◌}
-use Rattle.std.proofs.lemmas.Bool.{cases_lt, le-leb}
-use Rattle.std.proofs.lemmas.List.Elements.{All-head, All-tail}
+use Rattle.std.proofs.Common.{◌≡◌, ◌<◌, ◌≤◌, ◌+◌, ◌⊎◌, inl, inr, ℕ, List, [], length, replicate, None, Result, Ok, All, refl, sym, ap, subst, ◌∙◌, arith}
+use Rattle.std.proofs.lemmas.Bool.{cases_lt}
 use Rattle.pz_syntax.specs.declared.tokens.Pos.{Pos}
 use Rattle.pz_syntax.specs.declared.exprs.Literal.TheVariants as literal
 use Rattle.pz_syntax.specs.Expressions as expression
@@ -11,34 +10,26 @@ use Rattle.pz_state.specs.States.{StateView, object_limit}
 use Rattle.pz_state.specs.declared.fault.FaultKind.TheVariants.{StoreFull}
 use Rattle.pz_copy.specs.Parcels.{ParcelView}
 use Rattle.pz_copy.specs.Packing.{IsParcelOf}
-use Rattle.pz_offer.specs.PlaceOrder.{Place}
 use Rattle.pz_offer.specs.declared.trouble.Trouble.{Trouble}
-use Rattle.pz_offer.specs.declared.trouble.Trouble.TheVariants.{Spent, High}
-use Rattle.pz_rules.specs.Terms.{Step, Term, done, leaf, wait, sequence, height}
-use Rattle.pz_rules.specs.Settings.{Context, Process, left_by, in_state, Home, home_of}
+use Rattle.pz_offer.specs.declared.trouble.Trouble.TheVariants.{Spent}
+use Rattle.pz_rules.specs.Terms.{Term, done, leaf}
+use Rattle.pz_rules.specs.Settings.{Context, Process}
 use Rattle.pz_rules.specs.Meanings.{and_then, fault}
-use Rattle.pz_rules.specs.Active.{IsActive}
-use Rattle.pz_rules.specs.Opening.{step_opened, enter, opened_all}
-use Rattle.pz_rules.specs.Leaving.{around, residual, swept, not_too_high, settled}
 use Rattle.pz_rules.specs.InternalActions as actions
 use Rattle.pz_rules.specs.InternalActions.{done_in, Performs}
 use Rattle.pz_rules.specs.Messages as messages
 use Rattle.pz_rules.specs.Messages.{Fits, bound, Hands, Takes}
-use Rattle.pz_rules.specs.Evaluations.{Lasts}
-use Rattle.pz_rules.specs.Delays as delays
-use Rattle.pz_rules.specs.Delays.{Passes}
 use Rattle.pz_env_script.specs.declared.entry.Transfer.{Transfer}
 use Rattle.pz_env_script.specs.declared.entry.Transfer.TheVariants.{Send, Receive}
 use Rattle.pz_env_script.specs.Entries.{values_in}
-use Rattle.pz_env_rules.specs.Environment.{Line, at_line, wait_of, Doing, over, waits, offers, begins, later}
+use Rattle.pz_env_rules.specs.Environment.{Line, at_line}
 use Rattle.pz_env_rules.specs.Ends.{named_at}
 use Rattle.pz_env_tree.specs.EnvironmentClass.{unless_none}
-use Rattle.pz_env_mimics.specs.Environments.{exchange, waiting, statements, arguments, IsPlain}
+use Rattle.pz_env_mimics.specs.Environments.{exchange, arguments}
 use Rattle.pz_env_mimics.proofs.Literals.{IsConstant, arguments_given, arguments_only, arguments_only_spent}
 use Rattle.pz_env_mimics.proofs.PlainValues.{plain_parcel, only_plain_parcel, bound_objects}
-use Rattle.pz_env_mimics.proofs.Environment.{IsWaiting, not_begun, begun, behind, offering, called, IsDoing, finished, waiting_for, offering_it, place_of, IsAround, active_offering, active_in_sequence}
-use Rattle.pz_env_mimics.proofs.Speaking.{ok_same, ok_apart, plain_number, plain_number_only}
-use Rattle.pz_env_mimics.proofs.Doing.{PartIs, around_it, ended, delayed, exchanges}
+use Rattle.pz_env_mimics.proofs.Environment.{IsWaiting, not_begun, begun, IsAround}
+use Rattle.pz_env_mimics.proofs.Speaking.{ok_same, ok_apart}
 
 -- What is around another term does nothing
 
@@ -169,11 +160,11 @@ module _ (a : Context) (g p : ℕ) (x : Line) (parcel : ParcelView) where
       by (inl more) = (
         fault StoreFull a.process (at_line x),
         subst (λ (q : Transfer). Takes a g parcel (leaf (exchange p x q)) (at_line x) (fault StoreFull a.process (at_line x))) (sym is)
-        (messages.full (at_line x) p (named_at x x.entry.message) (unless_none (replicate count (Shared 0))) None expression.left_out (λ fits. omega (arith, more, fits))),
+            (messages.full (at_line x) p (named_at x x.entry.message) (unless_none (replicate count (Shared 0))) None expression.left_out (λ fits. omega (arith, more, fits))),
       )
       by (inr fits) =
           let s = bound a g (unless_none (replicate count (Shared 0))) parcel in (
             Ok (done_in s),
             subst (λ (q : Transfer). Takes a g parcel (leaf (exchange p x q)) (at_line x) (Ok (done_in s))) (sym is)
-            (messages.takes (at_line x) p (named_at x x.entry.message) (unless_none (replicate count (Shared 0))) None expression.left_out (Ok []) s fits (refl, refl)),
+                (messages.takes (at_line x) p (named_at x x.entry.message) (unless_none (replicate count (Shared 0))) None expression.left_out (Ok []) s fits (refl, refl)),
           )

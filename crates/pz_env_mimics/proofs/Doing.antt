@@ -1,5 +1,5 @@
 -- What an environment says where it does something, as a process.
-use Rattle.std.proofs.Common.{◌≡◌, ◌<◌, ◌≤◌, ℕ, Bool, true, List, [], ◌∷◌, length, Result, Ok, All, refl, sym, ap, subst, ◌∙◌}
+use Rattle.std.proofs.Common.{◌≡◌, ◌<◌, ◌≤◌, ℕ, Bool, true, List, [], ◌∷◌, length, Result, Ok, All, refl, sym, ap, subst}
 use Rattle.pz_syntax.specs.declared.tokens.Pos.{Pos}
 use Rattle.pz_value.specs.declared.value.Value.{Value}
 use Rattle.pz_copy.specs.Parcels.{ParcelView}

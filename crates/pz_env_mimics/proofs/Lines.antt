@@ -1,8 +1,7 @@
 -- The lines of both are the same.
-use Rattle.std.proofs.Common.{◌≡◌, ◌+◌, ◌<◌, ◌≤◌, ◌⊎◌, inl, inr, ℕ, zero, suc, Bool, true, false, List, [], ◌∷◌, ◌++◌, length, Option, Some, None, codes, slice_get, nat_eq, if◌then◌else◌, flat_map, refl, sym, ap, subst, ◌∙◌, arith, decimal, length-append}
+use Rattle.std.proofs.Common.{◌≡◌, ◌+◌, ◌<◌, ◌≤◌, ◌⊎◌, inl, inr, ℕ, Bool, true, false, List, [], ◌∷◌, ◌++◌, length, Option, codes, nat_eq, if◌then◌else◌, flat_map, refl, sym, ap, ◌∙◌, arith, decimal, length-append}
 use Rattle.std.specs.Option.{option_map_or}
-use Rattle.std.specs.List.{AllZip}
-use Rattle.std.proofs.lemmas.Bool.{cases_lt, cases_eq, eq-eqb, eqb-true}
+use Rattle.std.proofs.lemmas.Bool.{cases_lt, eq-eqb, eqb-true}
 use Rattle.std.proofs.lemmas.Option.{slice_get_past}
 use Rattle.pz_syntax.specs.declared.tokens.Pos.{Pos}
 use Rattle.pz_syntax.specs.Classes.{ModelTree}
@@ -12,13 +11,10 @@ use Rattle.pz_bind.specs.Nest.{processes}
 use Rattle.pz_bind.specs.Names.{path}
 use Rattle.pz_copy.specs.Parcels.{ParcelView}
 use Rattle.pz_copy.specs.ParcelText.{parcel_text}
-use Rattle.pz_offer.specs.declared.end.End.{End}
 use Rattle.pz_offer.specs.declared.trouble.Trouble.{Trouble}
 use Rattle.pz_offer.specs.declared.trouble.Trouble.TheVariants.{Fault, Spent, High}
-use Rattle.pz_rules.specs.declared.action.Kind.{Kind}
 use Rattle.pz_rules.specs.declared.action.Action.{Action}
-use Rattle.pz_rules.specs.declared.action.Action.TheVariants.{Internal, Comm}
-use Rattle.pz_rules.specs.Runs.{Event, acted, passed}
+use Rattle.pz_rules.specs.Runs.{Event}
 use Rattle.pz_trace.specs.declared.ending.Ending.{Ending}
 use Rattle.pz_trace.specs.declared.ending.Ending.TheVariants as ending
 use Rattle.pz_trace.specs.Words.{kind_word, fault_word, pos_text}

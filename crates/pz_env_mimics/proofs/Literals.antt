@@ -1,5 +1,5 @@
 -- What literals come to: a unit for each, and nothing is changed.
-use Rattle.std.proofs.Common.{◌≡◌, ◌<◌, ◌≤◌, ◌+◌, ℕ, suc, max, List, [], ◌∷◌, ◌++◌, length, Ok, Err, Result, pos, All, refl, sym, ap, subst, ◌∙◌, arith, append_assoc, append-nil}
+use Rattle.std.proofs.Common.{◌≡◌, ◌<◌, ◌≤◌, ◌+◌, ℕ, max, List, [], ◌∷◌, ◌++◌, length, Ok, Err, Result, pos, All, refl, sym, ap, subst, ◌∙◌, arith, append_assoc, append-nil}
 use Rattle.std.proofs.lemmas.List.Elements.{All-head, All-tail}
 use Rattle.pz_syntax.specs.declared.tokens.Pos.{Pos}
 use Rattle.pz_syntax.specs.declared.exprs.Literal.{Literal}
@@ -25,7 +25,7 @@ use Rattle.pz_eval_rules.specs.Evaluation.{Evaluates, a_constant, Arguments, no_
 use Rattle.pz_eval_rules.specs.Outcomes.{Within, outside, Finds, a_value, a_fault, too_much, FindsAll, all_values, one_fault, all_too_much, ComesTo, AllComeTo}
 use Rattle.pz_rules.specs.Settings.{Context}
 use Rattle.pz_rules.specs.Meanings.{and_then, duration}
-use Rattle.pz_rules.specs.Evaluations.{allowance, value_or_trouble, values_or_trouble, Gives, GivesAll, GivesPart, Lasts}
+use Rattle.pz_rules.specs.Evaluations.{allowance, value_or_trouble, values_or_trouble, Gives, GivesPart, Lasts}
 use Rattle.pz_env_tree.specs.EnvironmentClass.{literal_of}
 use Rattle.pz_env_mimics.specs.Environments.{literals, arguments}
 

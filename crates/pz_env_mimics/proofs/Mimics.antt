@@ -1,15 +1,14 @@
 -- A configuration of the closed model that stands where a driven system does.
-use Rattle.std.proofs.Common.{◌≡◌, ◌<◌, ◌≤◌, ◌⊎◌, inl, inr, ◌↔◌, ℕ, zero, suc, List, [], ◌∷◌, ◌++◌, length, Some, All, get_or, slice_get, refl, sym, ap, subst, ◌∙◌, arith, length-append}
+use Rattle.std.proofs.Common.{◌≡◌, ◌<◌, ◌≤◌, ◌⊎◌, inl, inr, ◌↔◌, ℕ, zero, suc, List, [], ◌∷◌, ◌++◌, length, Some, All, get_or, slice_get, refl, sym, ap, subst, ◌∙◌, arith}
 use Rattle.std.proofs.lemmas.Bool.{cases_lt}
-use Rattle.std.proofs.lemmas.Option.{slice_get_within}
-use Rattle.std.proofs.lemmas.List.Elements.{All-contains, Contains-get_or}
+use Rattle.std.proofs.lemmas.List.Elements.{Contains-get_or}
 use Rattle.pz_syntax.specs.Classes.{ModelTree}
 use Rattle.pz_bind_levels.specs.Places.{Address}
 use Rattle.pz_bind.specs.Nest.{processes, class_at}
 use Rattle.pz_offer.specs.declared.end.End.{End}
 use Rattle.pz_offer.specs.PlaceOrder.{Place}
 use Rattle.pz_rules.specs.Terms.{Term}
-use Rattle.pz_rules.specs.Settings.{Setting, Process, Context}
+use Rattle.pz_rules.specs.Settings.{Process, Context}
 use Rattle.pz_rules.specs.Active.{IsActive}
 use Rattle.pz_rules.specs.Ports.{IsWire}
 use Rattle.pz_rules.specs.Configurations.{Config, Stands}
@@ -21,7 +20,7 @@ use Rattle.pz_env_same.specs.OneMore.{OneMore}
 use Rattle.pz_env_mimics.specs.Environments.{IsPlain}
 use Rattle.pz_env_mimics.specs.Closing.{Closes, closed}
 use Rattle.pz_env_mimics.proofs.Known.{Known}
-use Rattle.pz_env_mimics.proofs.Environment.{IsDoing, place_of}
+use Rattle.pz_env_mimics.proofs.Environment.{IsDoing}
 use Rattle.pz_env_mimics.proofs.Doing.{PartIs, part_is}
 
 pub got_last : {X : Type 0} (xs : List X) (x : X) (i : ℕ) → i ≡ length xs → slice_get (xs ++ x ∷ []) i ≡ Some x

@@ -1,36 +1,30 @@
 -- The moment of both is the same.
-use Rattle.std.proofs.Common.{◌≡◌, ◌<◌, ◌≤◌, ◌⊎◌, inl, inr, ◌↔◌, ℕ, List, [], ◌∷◌, length, Ok, Err, refl, sym, ap, subst, ◌∙◌, arith}
-use Rattle.std.specs.List.{AllZip}
+use Rattle.std.proofs.Common.{◌≡◌, ◌<◌, ◌≤◌, ◌⊎◌, inl, inr, ℕ, [], ◌∷◌, length, Err, refl, sym, ap, subst, arith}
 use Rattle.std.proofs.lemmas.List.Elements.{length_all_zip}
 use Rattle.pz_syntax.specs.Classes.{ModelTree}
-use Rattle.pz_value.specs.declared.value.Value.{Value}
-use Rattle.pz_copy.specs.Parcels.{ParcelView}
 use Rattle.pz_offer.specs.declared.end.End.{End}
 use Rattle.pz_offer.specs.PlaceOrder.{Place}
 use Rattle.pz_offer.specs.declared.trouble.Trouble.{Trouble}
 use Rattle.pz_offer.specs.declared.trouble.Trouble.TheVariants.{Spent}
-use Rattle.pz_rules.specs.declared.action.Action.{Action}
 use Rattle.pz_rules.specs.declared.moment.Moment.{Moment}
-use Rattle.pz_rules.specs.declared.moment.Moment.TheVariants.{Actions as ActionsMoment, Time, Finished, Deadlock, Faulty, Stopped}
+use Rattle.pz_rules.specs.declared.moment.Moment.TheVariants.{Actions as ActionsMoment}
 use Rattle.pz_rules.specs.Terms.{Term, done, height, leaf}
 use Rattle.pz_rules.specs.Settings.{Process, Context}
-use Rattle.pz_rules.specs.Active.{IsActive}
 use Rattle.pz_rules.specs.Asking.{Asks}
 use Rattle.pz_rules.specs.Delays.{Delays}
 use Rattle.pz_rules.specs.Configurations.{Config}
 use Rattle.pz_rules.specs.Offers.{PartAt}
 use Rattle.pz_rules.specs.Moments as system
 use Rattle.pz_rules.specs.Moments.{IsFirstHigh, Source, part, pair, Troubles, IsLeastTrouble, IsLeft, IsLeast, AllDone, Candidate, rank, IsMoment}
-use Rattle.pz_env_script.specs.declared.entry.Transfer.TheVariants.{Send}
-use Rattle.pz_env_rules.specs.Environment.{Line, at_line, Doing, over, waits, offers}
+use Rattle.pz_env_rules.specs.Environment.{Line, at_line, Doing, over}
 use Rattle.pz_env_rules.specs.Joining.{Driving}
-use Rattle.pz_env_rules.specs.Driven.{Driven, environment_number, environment_end}
+use Rattle.pz_env_rules.specs.Driven.{Driven, environment_end}
 use Rattle.pz_env_rules.specs.Moments as driven
 use Rattle.pz_env_rules.specs.Moments.{DrivenTroubles, spent, IsLeastDrivenTrouble, IsDrivenLeft, IsLeastDriven, AllOver, DrivenCandidate, IsDrivenMoment}
-use Rattle.pz_env_mimics.specs.Environments.{exchange, waiting, IsPlain}
+use Rattle.pz_env_mimics.specs.Environments.{exchange, IsPlain}
 use Rattle.pz_env_mimics.specs.Closing.{Closes, closed}
 use Rattle.pz_env_mimics.proofs.Known.{Known}
-use Rattle.pz_env_mimics.proofs.Environment.{IsWaiting, not_begun, begun, IsDoing, finished, waiting_for, offering_it, place_of}
+use Rattle.pz_env_mimics.proofs.Environment.{IsWaiting, not_begun, begun, IsDoing, finished, waiting_for, offering_it}
 use Rattle.pz_env_mimics.proofs.Doing.{asks_only, delays_only, delays_there, asks_there}
 use Rattle.pz_env_mimics.proofs.Mimics as mimics
 use Rattle.pz_env_mimics.proofs.Mimics.{Mimics, Fit, fit_plain}
@@ -119,8 +113,7 @@ module _ (known : Known) (g : Driving) (n : ModelTree) (closes : Closes g n) (d 
   )
   part_trouble_back at a f k t there asks (inr is) =
       let e = mimics.env_part known g n closes d c m at a f k there is in
-      let h = asks_only seen closes.limits.units closes.limits.depth port Fits plain_lines d.environment.doing m.more.term at.place f k t e.is (subst (λ (b : Context). Asks b f k t) e.context asks) in
-      (
+      let h = asks_only seen closes.limits.units closes.limits.depth port Fits plain_lines d.environment.doing m.more.term at.place f k t e.is (subst (λ (b : Context). Asks b f k t) e.context asks) in (
         part (environment_end g),
         subst (λ (b : End). SameSources env here [] (part b) (part (environment_end g))) (paired.end_is known g n closes d c m at is h.there) (parts env_there (environment_end g) of_env),
         subst (DrivenTroubles g d (part (environment_end g))) (sym h.trouble_is) (spent h.line h.rest h.values h.is h.sends h.more),

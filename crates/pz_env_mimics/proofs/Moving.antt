@@ -1,43 +1,26 @@
 -- What the environment becomes by what it does, as a process.
-use Rattle.std.proofs.Common.{◌≡◌, ◌<◌, ◌≤◌, ◌+◌, ◌-◌, ◌⊎◌, inl, inr, ℕ, Bool, true, false, List, [], ◌∷◌, length, replicate, Some, None, Result, Ok, Err, All, refl, sym, ap, subst, ◌∙◌, arith, if◌then◌else◌}
-use Rattle.std.proofs.lemmas.Bool.{cases_lt, le-leb}
-use Rattle.std.proofs.lemmas.List.Elements.{All-head, All-tail}
+use Rattle.std.proofs.Common.{◌≡◌, ◌≤◌, ◌+◌, ℕ, List, [], ◌∷◌, length, Result, Ok, All, refl, ap, subst, ◌∙◌}
 use Rattle.pz_syntax.specs.declared.tokens.Pos.{Pos}
-use Rattle.pz_syntax.specs.declared.exprs.Literal.TheVariants as literal
-use Rattle.pz_syntax.specs.Expressions as expression
 use Rattle.pz_value.specs.declared.value.Value.{Value}
-use Rattle.pz_classes_code.specs.declared.slot.Slot.TheVariants.{Shared}
-use Rattle.pz_state.specs.States.{StateView, object_limit}
+use Rattle.pz_state.specs.States.{object_limit}
 use Rattle.pz_state.specs.declared.fault.FaultKind.TheVariants.{StoreFull}
 use Rattle.pz_copy.specs.Parcels.{ParcelView}
-use Rattle.pz_copy.specs.Packing.{IsParcelOf}
 use Rattle.pz_offer.specs.PlaceOrder.{Place}
 use Rattle.pz_offer.specs.declared.trouble.Trouble.{Trouble}
-use Rattle.pz_offer.specs.declared.trouble.Trouble.TheVariants.{Spent, High}
-use Rattle.pz_rules.specs.Terms.{Step, Term, done, leaf, wait, sequence, height}
-use Rattle.pz_rules.specs.Settings.{Context, Process, left_by, in_state, Home, home_of}
+use Rattle.pz_rules.specs.Terms.{Term, leaf, sequence}
+use Rattle.pz_rules.specs.Settings.{Context, Process, left_by}
 use Rattle.pz_rules.specs.Meanings.{and_then, fault}
 use Rattle.pz_rules.specs.Active.{IsActive}
-use Rattle.pz_rules.specs.Opening.{step_opened, enter, opened_all}
-use Rattle.pz_rules.specs.Leaving.{around, residual, swept, not_too_high, settled}
-use Rattle.pz_rules.specs.InternalActions as actions
+use Rattle.pz_rules.specs.Leaving.{around, swept, settled}
 use Rattle.pz_rules.specs.InternalActions.{done_in, Performs}
-use Rattle.pz_rules.specs.Messages as messages
-use Rattle.pz_rules.specs.Messages.{Fits, bound, Hands, Takes}
-use Rattle.pz_rules.specs.Evaluations.{Lasts}
-use Rattle.pz_rules.specs.Delays as delays
-use Rattle.pz_rules.specs.Delays.{Passes}
+use Rattle.pz_rules.specs.Messages.{Fits, Hands, Takes}
 use Rattle.pz_env_script.specs.declared.entry.Transfer.{Transfer}
 use Rattle.pz_env_script.specs.declared.entry.Transfer.TheVariants.{Send, Receive}
 use Rattle.pz_env_script.specs.Entries.{values_in}
-use Rattle.pz_env_rules.specs.Environment.{Line, at_line, wait_of, Doing, over, waits, offers, begins, later}
-use Rattle.pz_env_rules.specs.Ends.{named_at}
-use Rattle.pz_env_tree.specs.EnvironmentClass.{unless_none}
-use Rattle.pz_env_mimics.specs.Environments.{exchange, waiting, statements, arguments, IsPlain}
-use Rattle.pz_env_mimics.proofs.Literals.{IsConstant, arguments_given, arguments_only, arguments_only_spent}
-use Rattle.pz_env_mimics.proofs.PlainValues.{plain_parcel, only_plain_parcel, bound_objects}
-use Rattle.pz_env_mimics.proofs.Environment.{IsWaiting, not_begun, begun, behind, offering, called, IsDoing, finished, waiting_for, offering_it, place_of, IsAround, active_offering, active_in_sequence}
-use Rattle.pz_env_mimics.proofs.Speaking.{ok_same, ok_apart, plain_number, plain_number_only}
+use Rattle.pz_env_rules.specs.Environment.{Line, at_line, Doing, waits, offers, begins}
+use Rattle.pz_env_mimics.specs.Environments.{exchange, IsPlain}
+use Rattle.pz_env_mimics.proofs.Literals.{IsConstant}
+use Rattle.pz_env_mimics.proofs.Environment.{behind, offering, called, IsDoing, waiting_for, offering_it, place_of, active_in_sequence}
 use Rattle.pz_env_mimics.proofs.Doing.{PartIs, around_it, ended, delayed, exchanges}
 use Rattle.pz_env_mimics.proofs.Settling.{whole_then, begins_so, settled_wait, settled_exchange}
 use Rattle.pz_env_mimics.proofs.Deeds.{TakenBy, taken, is_full, around_never_performs, around_never_hands, around_never_takes, done_never_performs, done_never_hands, done_never_takes, waiting_performs, waiting_performs_there, waiting_never_hands, waiting_never_takes, exchange_never_performs, exchange_hands, exchange_hands_there, exchange_takes, exchange_takes_there}

@@ -1,9 +1,8 @@
 -- What both offer is the same, one by one.
-use Rattle.std.proofs.Common.{◌≡◌, ◌≢◌, ◌<◌, ◌≤◌, ◌⊎◌, inl, inr, ℕ, Bool, true, List, [], ◌∷◌, length, Result, Ok, Err, AllPairs, All, Contains, refl, sym, ap, subst, ◌∙◌, arith}
+use Rattle.std.proofs.Common.{◌≡◌, ◌<◌, ◌⊎◌, inl, inr, ℕ, Bool, true, List, [], ◌∷◌, length, Result, Ok, refl, sym, ap, subst, ◌∙◌, arith}
 use Rattle.std.specs.List.{AllZip}
 use Rattle.pz_syntax.specs.declared.tokens.Pos.{Pos}
 use Rattle.pz_syntax.specs.Classes.{ModelTree}
-use Rattle.pz_value.specs.declared.value.Value.{Value}
 use Rattle.pz_copy.specs.Parcels.{ParcelView}
 use Rattle.pz_offer.specs.declared.end.End.{End}
 use Rattle.pz_offer.specs.PlaceOrder.{Place}
@@ -12,28 +11,23 @@ use Rattle.pz_rules.specs.declared.action.Kind.{Kind}
 use Rattle.pz_rules.specs.declared.action.Kind.TheVariants.{Expire}
 use Rattle.pz_rules.specs.declared.action.Action.{Action}
 use Rattle.pz_rules.specs.declared.action.Action.TheVariants.{Internal, Comm}
-use Rattle.pz_rules.specs.Terms.{Term, leaf}
-use Rattle.pz_rules.specs.Settings.{Setting, Context}
+use Rattle.pz_rules.specs.Terms.{leaf}
+use Rattle.pz_rules.specs.Settings.{Context}
 use Rattle.pz_rules.specs.Active.{IsActive}
 use Rattle.pz_rules.specs.InternalActions.{Can}
-use Rattle.pz_rules.specs.Messages.{Sends, Receives, Judges}
-use Rattle.pz_rules.specs.Ports.{IsWire}
+use Rattle.pz_rules.specs.Messages.{Judges}
 use Rattle.pz_rules.specs.Configurations.{Config}
 use Rattle.pz_rules.specs.Offers as system
 use Rattle.pz_rules.specs.Offers.{PartAt, IsPair, IsJudged, Offers, IsOffers}
-use Rattle.pz_env_script.specs.declared.entry.Transfer.TheVariants.{Send, Receive}
-use Rattle.pz_env_rules.specs.Environment.{Line, at_line, Doing, waits, offers}
+use Rattle.pz_env_rules.specs.Environment.{Line, at_line, Doing}
 use Rattle.pz_env_rules.specs.Joining.{Driving}
-use Rattle.pz_env_rules.specs.Driven.{Driven, environment_end, IsWireOf, plain, Gives, Gets}
-use Rattle.pz_env_rules.specs.Offers as driven
-use Rattle.pz_env_rules.specs.Offers.{Hears, Says, IsDrivenPair, of_processes, to_system, from_system, IsDrivenJudged, by_process, by_environment, DrivenOffers, acts, expires, communicates, IsDrivenOffers}
-use Rattle.pz_env_same.specs.SameRules.{in_model, seen_in}
-use Rattle.pz_env_same.specs.OneMore.{IsOf}
-use Rattle.pz_env_mimics.specs.Environments.{exchange, IsPlain}
+use Rattle.pz_env_rules.specs.Driven.{Driven, environment_end}
+use Rattle.pz_env_rules.specs.Offers.{IsDrivenPair, of_processes, to_system, from_system, IsDrivenJudged, by_process, by_environment, DrivenOffers, acts, expires, communicates, IsDrivenOffers}
+use Rattle.pz_env_mimics.specs.Environments.{exchange}
 use Rattle.pz_env_mimics.specs.Closing.{Closes, closed}
 use Rattle.pz_env_mimics.proofs.Known.{Known}
 use Rattle.pz_env_mimics.proofs.Environment.{IsDoing, place_of}
-use Rattle.pz_env_mimics.proofs.Doing.{PartIs, can_only, sends_only, receives_only, judges_only, expires_there, offers_there, sends_there, receives_there, judges_there}
+use Rattle.pz_env_mimics.proofs.Doing.{can_only, judges_only, expires_there, judges_there}
 use Rattle.pz_env_mimics.proofs.Mimics as mimics
 use Rattle.pz_env_mimics.proofs.Mimics.{Mimics, Fit, fit_plain}
 use Rattle.pz_env_mimics.proofs.Matching as matching
@@ -115,8 +109,7 @@ module _ (known : Known) (g : Driving) (n : ModelTree) (closes : Closes g n) (d 
       low (system.internal _ a f t _ _ part can) = paired.low_of known g n closes d c m at a f t part
   offer_on _ (expires x rest is) =
       let e = expires_there seen closes.limits.units closes.limits.depth port Fits (fit_plain known g n closes) x rest m.more.term (subst (λ (k : Doing). IsDoing port Fits k m.more.term) is m.does) in
-      let place : here ≡ 0 ∷ 0 ∷ [] = ap place_of is in
-      (
+      let place : here ≡ 0 ∷ 0 ∷ [] = ap place_of is in (
         Internal env_there Expire (at_line x),
         internal (environment_end g) env_there Expire (at_line x) of_env,
         system.internal env_there seen 1 e.part Expire (at_line x) (mimics.part_there known g n closes d c m here e.part (subst (λ (k : Place). IsActive seen m.more.term k 1 e.part) (sym place) e.active)) e.can,

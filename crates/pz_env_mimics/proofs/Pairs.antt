@@ -1,43 +1,31 @@
 -- The pairs of both are the same.
-use Rattle.std.proofs.Common.{◌≡◌, ◌≢◌, ◌<◌, ◌≤◌, ◌⊎◌, inl, inr, ℕ, Bool, true, List, [], ◌∷◌, length, Result, Ok, Err, AllPairs, All, Contains, refl, sym, ap, subst, ◌∙◌, arith}
-use Rattle.std.specs.List.{AllZip}
+use Rattle.std.proofs.Common.{◌≡◌, ◌<◌, ◌≤◌, ◌⊎◌, inl, inr, ℕ, List, [], length, sym, ap, subst, ◌∙◌, arith}
 use Rattle.pz_syntax.specs.declared.tokens.Pos.{Pos}
 use Rattle.pz_syntax.specs.Classes.{ModelTree}
-use Rattle.pz_value.specs.declared.value.Value.{Value}
 use Rattle.pz_copy.specs.Parcels.{ParcelView}
 use Rattle.pz_offer.specs.declared.end.End.{End}
 use Rattle.pz_offer.specs.PlaceOrder.{Place}
-use Rattle.pz_offer.specs.declared.trouble.Trouble.{Trouble}
-use Rattle.pz_rules.specs.declared.action.Kind.{Kind}
-use Rattle.pz_rules.specs.declared.action.Kind.TheVariants.{Expire}
 use Rattle.pz_rules.specs.declared.action.Action.{Action}
-use Rattle.pz_rules.specs.declared.action.Action.TheVariants.{Internal, Comm}
 use Rattle.pz_rules.specs.Terms.{Term, leaf}
 use Rattle.pz_rules.specs.Settings.{Setting, Context}
 use Rattle.pz_rules.specs.Active.{IsActive}
-use Rattle.pz_rules.specs.InternalActions.{Can}
-use Rattle.pz_rules.specs.Messages.{Sends, Receives, Judges}
+use Rattle.pz_rules.specs.Messages.{Sends}
 use Rattle.pz_rules.specs.Ports.{IsWire}
 use Rattle.pz_rules.specs.Configurations.{Config}
-use Rattle.pz_rules.specs.Offers as system
-use Rattle.pz_rules.specs.Offers.{PartAt, IsPair, IsJudged, Offers, IsOffers}
-use Rattle.pz_env_script.specs.declared.entry.Transfer.TheVariants.{Send, Receive}
-use Rattle.pz_env_rules.specs.Environment.{Line, at_line, Doing, waits, offers}
+use Rattle.pz_rules.specs.Offers.{PartAt, IsPair}
+use Rattle.pz_env_rules.specs.Environment.{Line, at_line, Doing, offers}
 use Rattle.pz_env_rules.specs.Joining.{Driving}
-use Rattle.pz_env_rules.specs.Driven.{Driven, environment_end, IsWireOf, plain, Gives, Gets}
-use Rattle.pz_env_rules.specs.Offers as driven
-use Rattle.pz_env_rules.specs.Offers.{Hears, Says, IsDrivenPair, of_processes, to_system, from_system, IsDrivenJudged, by_process, by_environment, DrivenOffers, acts, expires, communicates, IsDrivenOffers}
+use Rattle.pz_env_rules.specs.Driven.{Driven, environment_end, IsWireOf}
+use Rattle.pz_env_rules.specs.Offers.{Hears, Says, IsDrivenPair, of_processes, to_system, from_system}
 use Rattle.pz_env_same.specs.SameRules.{in_model, seen_in}
-use Rattle.pz_env_same.specs.OneMore.{IsOf}
 use Rattle.pz_env_mimics.specs.Environments.{exchange, IsPlain}
 use Rattle.pz_env_mimics.specs.Closing.{Closes, closed}
 use Rattle.pz_env_mimics.proofs.Known.{Known}
 use Rattle.pz_env_mimics.proofs.Environment.{IsDoing, place_of}
-use Rattle.pz_env_mimics.proofs.Doing.{PartIs, can_only, sends_only, receives_only, judges_only, expires_there, offers_there, sends_there, receives_there, judges_there}
+use Rattle.pz_env_mimics.proofs.Doing.{sends_only, receives_only, offers_there, sends_there, receives_there}
 use Rattle.pz_env_mimics.proofs.Mimics as mimics
 use Rattle.pz_env_mimics.proofs.Mimics.{Mimics, Fit, fit_plain}
-use Rattle.pz_env_mimics.proofs.Matching as matching
-use Rattle.pz_env_mimics.proofs.Matching.{SameEnds, of_system, of_env, SameActions, internal, communication, Whole, whole_other}
+use Rattle.pz_env_mimics.proofs.Matching.{SameEnds, of_system, of_env, SameActions}
 
 module _ (known : Known) (g : Driving) (n : ModelTree) (closes : Closes g n) (d : Driven) (c : Config) (m : Mimics known g n closes d c) where
   abbrev env : ℕ

@@ -1,59 +1,28 @@
 -- Where the passing of time leads in both is the same.
-use Rattle.std.proofs.Common.{◌≡◌, ◌<◌, ◌≤◌, ◌+◌, ◌⊎◌, inl, inr, ℕ, Bool, true, false, List, [], ◌∷◌, ◌++◌, length, Some, Result, Ok, Err, slice_get, slice_set, refl, sym, ap, subst, ◌∙◌, arith, nat_le, if◌then◌else◌}
-use Rattle.std.proofs.lemmas.Bool.{le-leb, leb-true}
-use Rattle.std.proofs.lemmas.Option.{slice_get_within}
-use Rattle.pz_syntax.specs.declared.tokens.Pos.{Pos}
+use Rattle.std.proofs.Common.{ℕ, refl, sym, ap, subst, ◌∙◌}
 use Rattle.pz_syntax.specs.Classes.{ModelTree}
-use Rattle.pz_value.specs.declared.value.Value.{Value}
-use Rattle.pz_bind_levels.specs.Places.{Address}
-use Rattle.pz_bind.specs.Nest.{processes}
-use Rattle.pz_state.specs.States.{object_limit}
-use Rattle.pz_state.specs.declared.fault.FaultKind.TheVariants.{StoreFull}
-use Rattle.pz_copy.specs.Parcels.{ParcelView}
 use Rattle.pz_offer.specs.declared.end.End.{End}
 use Rattle.pz_offer.specs.PlaceOrder.{Place}
-use Rattle.pz_offer.specs.declared.trouble.Trouble.{Trouble}
-use Rattle.pz_offer.specs.declared.trouble.Trouble.TheVariants.{Fault}
-use Rattle.pz_rules.specs.declared.action.Kind.{Kind}
 use Rattle.pz_rules.specs.declared.action.Kind.TheVariants.{Expire}
-use Rattle.pz_rules.specs.declared.action.Action.{Action}
-use Rattle.pz_rules.specs.declared.action.Action.TheVariants.{Internal, Comm}
-use Rattle.pz_rules.specs.Terms.{Term, leaf}
-use Rattle.pz_rules.specs.Settings.{Setting, Process, Context, left_by}
-use Rattle.pz_rules.specs.Active.{IsActive}
-use Rattle.pz_rules.specs.Meanings.{and_then, fault}
-use Rattle.pz_rules.specs.InternalActions.{done_in, Performs}
-use Rattle.pz_rules.specs.Leaving.{settled}
-use Rattle.pz_rules.specs.Messages.{Fits, Hands, Takes}
+use Rattle.pz_rules.specs.declared.action.Action.TheVariants.{Internal}
+use Rattle.pz_rules.specs.Terms.{Term}
+use Rattle.pz_rules.specs.Settings.{Context, left_by}
 use Rattle.pz_rules.specs.Delays.{Passes}
 use Rattle.pz_rules.specs.Configurations.{Config, Stands, IsWhole}
-use Rattle.pz_rules.specs.Offers as offered
-use Rattle.pz_rules.specs.Offers.{PartAt, Offers}
-use Rattle.pz_rules.specs.Steps as system
-use Rattle.pz_rules.specs.Steps.{Deed, Acts, with_process, with_both, Next, PassesTo}
-use Rattle.pz_env_script.specs.declared.entry.Transfer.{Transfer}
-use Rattle.pz_env_script.specs.declared.entry.Transfer.TheVariants.{Send, Receive}
-use Rattle.pz_env_rules.specs.Environment.{Line, at_line, Doing, waits, offers, begins, later, Environment}
+use Rattle.pz_rules.specs.Steps.{PassesTo}
+use Rattle.pz_env_rules.specs.Environment.{Line, later, Environment}
 use Rattle.pz_env_rules.specs.Joining.{Driving}
-use Rattle.pz_env_rules.specs.Driven.{Driven, environment_number, environment_end, plain, Gives, Gets, stored}
-use Rattle.pz_env_rules.specs.Offers.{IsDrivenPair, of_processes, to_system, from_system, DrivenOffers, acts, expires, communicates}
-use Rattle.pz_env_rules.specs.Steps as driven
-use Rattle.pz_env_rules.specs.Steps.{in_system, doing_next, both_next, DrivenNext, DrivenPasses}
-use Rattle.pz_env_same.specs.OneMore.{OneMore, behind, result_behind, IsOf, IsActionOf}
+use Rattle.pz_env_rules.specs.Driven.{Driven}
+use Rattle.pz_env_rules.specs.Steps.{DrivenPasses}
+use Rattle.pz_env_same.specs.OneMore.{behind}
 use Rattle.pz_env_tree.specs.EnvironmentClass.{first_place}
-use Rattle.pz_env_mimics.specs.Environments.{exchange, IsPlain}
 use Rattle.pz_env_mimics.specs.Closing.{Closes, closed}
 use Rattle.pz_env_mimics.proofs.Known.{Known}
-use Rattle.pz_env_mimics.proofs.Environment.{IsDoing, place_of}
-use Rattle.pz_env_mimics.proofs.Doing.{PartIs, offers_there}
-use Rattle.pz_env_mimics.proofs.Moving as moving
+use Rattle.pz_env_mimics.proofs.Environment.{IsDoing}
 use Rattle.pz_env_mimics.proofs.Elapsing as elapsing
-use Rattle.pz_env_mimics.proofs.Moving.{Becomes, TakenOr, fits_in, too_full}
 use Rattle.pz_env_mimics.proofs.Mimics as mimics
 use Rattle.pz_env_mimics.proofs.Mimics.{Mimics, Fit, fit_plain}
-use Rattle.pz_env_mimics.proofs.Matching.{one_end, SameEnds, of_system, of_env, SameActions, internal, communication}
 use Rattle.pz_env_mimics.proofs.Pairs as paired
-use Rattle.pz_env_mimics.proofs.Offers as both
 
 module _ (known : Known) (g : Driving) (n : ModelTree) (closes : Closes g n) where
   abbrev env : ℕ

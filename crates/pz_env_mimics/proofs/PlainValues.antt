@@ -1,7 +1,7 @@
 -- Values of literals in parcels: they have no references, so there are no objects with them.
-use Rattle.std.proofs.Common.{◌≡◌, ◌+◌, ◌≤◌, ℕ, zero, suc, Bool, true, false, List, [], ◌∷◌, ◌++◌, length, map, replicate, Option, Some, None, unwrap_or, All, slice_get, refl, sym, ap, ◌∙◌, subst, arith, flat_map, length-append}
+use Rattle.std.proofs.Common.{◌≡◌, ◌+◌, ℕ, zero, suc, true, false, List, [], ◌∷◌, ◌++◌, length, map, replicate, Some, All, slice_get, refl, sym, ap, ◌∙◌, length-append}
 use Rattle.std.specs.List.{list_any}
-use Rattle.std.specs.Prelude.{nat_eq, take}
+use Rattle.std.specs.Prelude.{nat_eq}
 use Rattle.std.proofs.lemmas.List.{length-map}
 use Rattle.std.proofs.lemmas.List.Elements.{All-head, All-tail}
 use Rattle.pz_value.specs.declared.value.Value.{Value}
@@ -9,7 +9,7 @@ use Rattle.pz_value.specs.declared.value.Value.TheVariants as value
 use Rattle.pz_classes_code.specs.declared.slot.Slot.{Slot}
 use Rattle.pz_classes_code.specs.declared.slot.Slot.TheVariants.{Shared}
 use Rattle.pz_state.specs.Objects.{ObjectView}
-use Rattle.pz_state.specs.States.{StateView, object}
+use Rattle.pz_state.specs.States.{StateView}
 use Rattle.pz_copy.specs.References.{reference_of, references, renumbered, renumbered_object}
 use Rattle.pz_copy.specs.Parcels.{ParcelView}
 use Rattle.pz_copy.specs.Packing.{firsts, mentioned, place_in, packed_objects, IsListing, IsParcelOf}
@@ -17,7 +17,7 @@ use Rattle.pz_copy.specs.Unpacking.{shifted_objects, unpacked, unpacked_values}
 use Rattle.pz_eval_binding.specs.Binding as binding
 use Rattle.pz_eval_binding.specs.Binding.{set_slots, set_slot}
 use Rattle.pz_rules.specs.Messages.{variables_of}
-use Rattle.pz_env_tree.specs.EnvironmentClass.{literal_of, unless_none}
+use Rattle.pz_env_tree.specs.EnvironmentClass.{unless_none}
 use Rattle.pz_env_mimics.proofs.Literals.{IsConstant}
 
 -- No references

@@ -1,42 +1,25 @@
 -- Runs of both go the same way, and may end so.
-use Rattle.std.proofs.Common.{◌≡◌, ◌<◌, ◌↔◌, ℕ, suc, List, [], ◌∷◌, length, Some, Result, Ok, Err, slice_get, refl, sym, ap, subst, ◌∙◌, arith}
-use Rattle.std.specs.List.{AllZip}
-use Rattle.std.proofs.lemmas.List.Elements.{length_all_zip}
+use Rattle.std.proofs.Common.{◌↔◌, ℕ, List, [], ◌∷◌, Ok, Err, refl, subst}
 use Rattle.pz_syntax.specs.Classes.{ModelTree}
-use Rattle.pz_offer.specs.declared.end.End.{End}
-use Rattle.pz_offer.specs.PlaceOrder.{Place}
-use Rattle.pz_offer.specs.declared.trouble.Trouble.{Trouble}
-use Rattle.pz_rules.specs.declared.action.Action.{Action}
 use Rattle.pz_rules.specs.declared.moment.Moment.{Moment}
 use Rattle.pz_rules.specs.declared.moment.Moment.TheVariants.{Actions, Time, Finished, Deadlock, Faulty, Stopped}
 use Rattle.pz_rules.specs.Configurations.{Config}
-use Rattle.pz_rules.specs.Offers.{IsOffers}
-use Rattle.pz_rules.specs.Steps.{Next, PassesTo}
+use Rattle.pz_rules.specs.Steps.{Next}
 use Rattle.pz_rules.specs.Moments.{IsMoment}
 use Rattle.pz_rules.specs.Runs as runs
 use Rattle.pz_rules.specs.Runs.{Event, acted, passed, IsChoice, Standing, whole, stopped, Reaches, Ending, Ends}
-use Rattle.pz_rules.specs.ChosenRuns as chosen
-use Rattle.pz_rules.specs.ChosenRuns.{Policy, decided, stops_with, takes, waits, IsChosenRun}
 use Rattle.pz_env_rules.specs.Joining.{Driving}
-use Rattle.pz_env_rules.specs.Driven.{Driven, environment_number}
-use Rattle.pz_env_rules.specs.Offers.{DrivenOffers, IsDrivenOffers}
+use Rattle.pz_env_rules.specs.Driven.{Driven}
 use Rattle.pz_env_rules.specs.Moments.{IsDrivenMoment}
-use Rattle.pz_env_rules.specs.Steps.{DrivenNext, DrivenPasses}
+use Rattle.pz_env_rules.specs.Steps.{DrivenNext}
 use Rattle.pz_env_rules.specs.Runs as driven_runs
 use Rattle.pz_env_rules.specs.Runs.{IsDrivenChoice, DrivenReaches, DrivenEnds}
-use Rattle.pz_env_rules.specs.ChosenRuns as driven_chosen
-use Rattle.pz_env_rules.specs.ChosenRuns.{IsChosenDrivenRun}
-use Rattle.pz_env_mimics.specs.Closing as closing
-use Rattle.pz_env_mimics.specs.Closing.{Closes, closed, SameEnd, SameAction, SameEvent, SameEvents}
+use Rattle.pz_env_mimics.specs.Closing.{Closes, closed, SameEvents}
 use Rattle.pz_env_mimics.proofs.Known.{Known}
 use Rattle.pz_env_mimics.proofs.Mimics as mimics
 use Rattle.pz_env_mimics.proofs.Mimics.{Mimics}
-use Rattle.pz_env_mimics.proofs.Matching as matching
-use Rattle.pz_env_mimics.proofs.Matching.{SameEnds, of_system, of_env, SameActions, at_number}
 use Rattle.pz_env_mimics.proofs.Pairs as paired
-use Rattle.pz_env_mimics.proofs.Offers as both
 use Rattle.pz_env_mimics.proofs.Moments.{moment_on, moment_back}
-use Rattle.pz_env_mimics.proofs.Outcomes.{SameNext, goes, fails}
 use Rattle.pz_env_mimics.proofs.Nexts.{next_on, next_back}
 use Rattle.pz_env_mimics.proofs.Passing.{passes_on, passes_back}
 use Rattle.pz_env_mimics.proofs.Choices.{choice_on, choice_back, goes_on, goes_back, fails_on, fails_back, same_acted, same_passed}

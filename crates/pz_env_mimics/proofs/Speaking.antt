@@ -1,15 +1,13 @@
 -- What the environment's part that acts can do, sends, receives and is asked, and what is left of its delay.
-use Rattle.std.proofs.Common.{◌≡◌, ◌<◌, ◌≤◌, ◌⊎◌, inl, inr, ℕ, Bool, true, List, [], ◌∷◌, length, replicate, None, Result, Ok, Err, ℤ, pos, All, refl, sym, ap, subst, ◌∙◌, arith}
+use Rattle.std.proofs.Common.{◌≡◌, ◌<◌, ◌≤◌, ◌⊎◌, inl, inr, ℕ, Bool, true, List, [], length, replicate, None, Result, Ok, Err, ℤ, All, refl, sym, ap, subst}
 use Rattle.std.proofs.lemmas.Bool.{cases_lt}
 use Rattle.pz_syntax.specs.declared.tokens.Pos.{Pos}
 use Rattle.pz_syntax.specs.declared.exprs.Literal.TheVariants as literal
 use Rattle.pz_syntax.specs.Expressions as expression
 use Rattle.pz_value.specs.declared.value.Value.{Value}
 use Rattle.pz_classes_code.specs.declared.slot.Slot.TheVariants.{Shared}
-use Rattle.pz_state.specs.States.{StateView}
 use Rattle.pz_copy.specs.Parcels.{ParcelView}
 use Rattle.pz_copy.specs.Packing.{IsParcelOf}
-use Rattle.pz_offer.specs.PlaceOrder.{Place}
 use Rattle.pz_offer.specs.declared.trouble.Trouble.{Trouble}
 use Rattle.pz_offer.specs.declared.trouble.Trouble.TheVariants.{Spent}
 use Rattle.pz_rules.specs.declared.action.Kind.{Kind}
@@ -17,7 +15,6 @@ use Rattle.pz_rules.specs.declared.action.Kind.TheVariants.{Expire}
 use Rattle.pz_rules.specs.Terms.{Term, done, leaf, wait}
 use Rattle.pz_rules.specs.Settings.{Context}
 use Rattle.pz_rules.specs.Evaluations.{Lasts}
-use Rattle.pz_rules.specs.Active.{Active, IsActive}
 use Rattle.pz_rules.specs.InternalActions as actions
 use Rattle.pz_rules.specs.InternalActions.{Can}
 use Rattle.pz_rules.specs.Messages as messages
@@ -29,13 +26,13 @@ use Rattle.pz_rules.specs.Delays.{Delays}
 use Rattle.pz_env_script.specs.declared.entry.Transfer.{Transfer}
 use Rattle.pz_env_script.specs.declared.entry.Transfer.TheVariants.{Send, Receive}
 use Rattle.pz_env_script.specs.Entries.{values_in}
-use Rattle.pz_env_rules.specs.Environment.{Line, at_line, wait_of, Doing, over, waits, offers}
+use Rattle.pz_env_rules.specs.Environment.{Line, at_line, wait_of}
 use Rattle.pz_env_rules.specs.Ends.{named_at}
 use Rattle.pz_env_tree.specs.EnvironmentClass.{unless_none}
-use Rattle.pz_env_mimics.specs.Environments.{exchange, waiting, arguments, IsPlain}
+use Rattle.pz_env_mimics.specs.Environments.{exchange, arguments, IsPlain}
 use Rattle.pz_env_mimics.proofs.Literals.{IsConstant, number_lasts, number_only, arguments_given, arguments_only, arguments_spent, arguments_only_spent}
 use Rattle.pz_env_mimics.proofs.PlainValues.{plain_parcel, only_plain_parcel, count_of}
-use Rattle.pz_env_mimics.proofs.Environment.{IsWaiting, not_begun, begun, behind, offering, called, IsDoing, finished, waiting_for, offering_it, place_of, IsAround, IsPart, itself, outer, part_waiting, part_offering, part_done, active_offering, active_in_sequence}
+use Rattle.pz_env_mimics.proofs.Environment.{IsWaiting, not_begun, begun, IsAround}
 
 pub ok_same : {A : Type 0} (x y : A) → (let r : Result A Trouble = Ok x in r ≡ Ok y) → x ≡ y
 ok_same x y e = cc

@@ -1,23 +1,17 @@
 -- Both start the same.
-use Rattle.std.proofs.Common.{◌≡◌, ◌≢◌, ◌≤◌, ◌<◌, ℕ, zero, suc, List, [], ◌∷◌, ◌++◌, length, Option, Some, None, All, slice_get, refl, sym, ap, subst, ◌∙◌, arith}
-use Rattle.pz_syntax.specs.declared.tokens.Pos.{Pos}
-use Rattle.pz_syntax.specs.declared.names.Id.{Id}
+use Rattle.std.proofs.Common.{◌≡◌, ◌≢◌, ◌≤◌, ℕ, zero, suc, List, [], ◌∷◌, length, Option, Some, slice_get, refl, sym, ap, subst, ◌∙◌, arith}
 use Rattle.pz_syntax.specs.Expressions.{none}
 use Rattle.pz_syntax.specs.Statements.{call}
 use Rattle.pz_syntax.specs.Classes.{ModelTree}
-use Rattle.pz_value.specs.declared.value.Value.{Value}
-use Rattle.pz_classes.specs.Bodies.{BodyTree, process_body}
-use Rattle.pz_classes.specs.MethodBodies.{process_method_body}
-use Rattle.pz_classes.specs.Starts.{init}
+use Rattle.pz_classes.specs.Bodies.{BodyTree}
 use Rattle.pz_bind_levels.specs.Places.{Address}
-use Rattle.pz_bind.specs.Nest.{processes, class_at}
+use Rattle.pz_bind.specs.Nest.{processes}
 use Rattle.pz_bind.specs.Values.{values_at}
 use Rattle.pz_state.specs.States.{StateView, initial, opened as with_frame}
 use Rattle.pz_rules.specs.declared.limits.Edition.{Edition}
-use Rattle.pz_rules.specs.declared.limits.Edition.TheVariants.{Two}
 use Rattle.pz_rules.specs.Terms.{Step, sequence, leaf}
-use Rattle.pz_rules.specs.Settings.{Setting, Process, left_by, Home}
-use Rattle.pz_rules.specs.Opening.{depth_of, enter_in, entered_to, by_body, opened, opened_all, steps_opened, in_frame}
+use Rattle.pz_rules.specs.Settings.{Process, left_by, Home}
+use Rattle.pz_rules.specs.Opening.{depth_of, enter_in, entered_to, by_body, opened, steps_opened, in_frame}
 use Rattle.pz_rules.specs.Framing.{framed}
 use Rattle.pz_rules.specs.FrameNumbers.{least_free}
 use Rattle.pz_rules.specs.Leaving.{swept}
@@ -25,7 +19,7 @@ use Rattle.pz_rules.specs.Configurations.{Config}
 use Rattle.pz_rules.specs.Starting.{home_at, begins_with, StartsAs, IsStart}
 use Rattle.pz_env_rules.specs.Environment.{Line, begins, Environment}
 use Rattle.pz_env_rules.specs.Joining.{Driving}
-use Rattle.pz_env_rules.specs.Driven.{Driven, environment_number, IsDrivenStart}
+use Rattle.pz_env_rules.specs.Driven.{Driven, IsDrivenStart}
 use Rattle.pz_env_same.specs.OneMore.{OneMore, behind}
 use Rattle.pz_env_same.specs.SystemLaws.{MoreStarts}
 use Rattle.pz_env_mimics.specs.Environments.{statements, waiting}

@@ -1,18 +1,18 @@
 -- The laws: runs, chosen runs and texts of both are the same.
-use Rattle.std.proofs.Common.{◌≡◌, ◌↔◌, ℕ, List, ◌++◌, flat_map, refl, sym, ap, subst, ◌∙◌}
+use Rattle.std.proofs.Common.{◌≡◌, ◌↔◌, ℕ, List, ◌++◌, sym, ap, ◌∙◌}
 use Rattle.pz_syntax.specs.Classes.{ModelTree}
 use Rattle.pz_rules.specs.Configurations.{Config}
 use Rattle.pz_rules.specs.Starting.{IsStart}
-use Rattle.pz_rules.specs.Runs.{Event, Standing, Reaches, Ending as RunEnding, Ends}
+use Rattle.pz_rules.specs.Runs.{Event, Standing, Reaches, Ending as RunEnding}
 use Rattle.pz_rules.specs.ChosenRuns.{Policy, IsChosenRun}
 use Rattle.pz_trace.specs.declared.ending.Ending.{Ending}
 use Rattle.pz_trace.specs.Lines as trace
 use Rattle.pz_trace.specs.TraceText.{run_ending, events_text}
 use Rattle.pz_env_rules.specs.Joining.{Driving}
 use Rattle.pz_env_rules.specs.Driven.{Driven, IsDrivenStart}
-use Rattle.pz_env_rules.specs.Runs.{DrivenReaches, DrivenEnds}
+use Rattle.pz_env_rules.specs.Runs.{DrivenReaches}
 use Rattle.pz_env_rules.specs.ChosenRuns.{IsChosenDrivenRun}
-use Rattle.pz_env_rules.specs.Text.{drive_header, drive_text, event_line, end_line, IsDriveText}
+use Rattle.pz_env_rules.specs.Text.{drive_header, drive_text, end_line, IsDriveText}
 use Rattle.pz_env_mimics.specs.Closing.{Closes, closed, SameEvents}
 use Rattle.pz_env_mimics.specs.Laws.{ClosedRun, DrivenRun, ChosenClosedRun, ChosenDrivenRun, IsClosedText}
 use Rattle.pz_env_mimics.proofs.Known.{Known}

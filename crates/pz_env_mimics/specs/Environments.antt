@@ -1,6 +1,6 @@
 -- What stands for the environment of a driven system in another model: one process more, numbered after all
 -- processes of the system, whose one method does the lines of the script.
-use Rattle.std.specs.Prelude.{◌≡◌, ◌≢◌, ◌↔◌, ◌≤◌, ◌<◌, ℕ, pos, List, [], ◌∷◌, ◌++◌, map, replicate, length, All, Contains, Some, None, codes}
+use Rattle.std.specs.Prelude.{◌≡◌, ◌≢◌, ◌↔◌, ◌≤◌, ◌<◌, ℕ, pos, List, [], ◌∷◌, ◌++◌, replicate, length, All, Contains, Some, None, codes}
 use Rattle.pz_syntax.specs.declared.tokens.Pos.{Pos}
 use Rattle.pz_syntax.specs.declared.names.Id.{Id}
 use Rattle.pz_syntax.specs.declared.exprs.Literal.TheVariants as literal
