@@ -1,7 +1,7 @@
 -- What is known of models with the same rules, as it is used here.
 use Rattle.pz_rules.specs.Laws.{StaysWhole}
 use Rattle.pz_env_same.specs.Laws.{SendsAreTheSame, ProcessesSeeTheSame}
-use Rattle.pz_env_same.specs.SystemLaws.{OneMoreStands, PartsStandInBoth, PartsAreOfTheModel, InternalOffersAreTheSame, PairsAreTheSame, VerdictsAreTheSame, CommunicationsAreTheSame, TroublesOfPartsAreTheSame, TroublesOfPairsAreTheSame, DelaysLeaveTheSame, HighIsTheSame, AllAreDoneInBoth, PartsHandTheSame, PartsTakeTheSame, ProcessesBecomeTheSame, OneMoreBecomes, LeadOnToBoth, TimePassesInBoth, StartsHaveOneMore, StartsAreOfBoth}
+use Rattle.pz_env_same.specs.SystemLaws.{OneMoreStands, PartsStandInBoth, PartsAreOfTheModel, InternalOffersAreTheSame, PairsAreTheSame, VerdictsAreTheSame, TroublesOfPartsAreTheSame, DelaysLeaveTheSame, HighIsTheSame, AllAreDoneInBoth, PartsHandTheSame, PartsTakeTheSame, ProcessesBecomeTheSame, OneMoreBecomes, LeadOnToBoth, TimePassesInBoth, StartsHaveOneMore, StartsAreOfBoth}
 
 pub record Known : Type 0 where
   pub stays_whole : StaysWhole
@@ -13,9 +13,7 @@ pub record Known : Type 0 where
   pub internals : InternalOffersAreTheSame
   pub pairs : PairsAreTheSame
   pub verdicts : VerdictsAreTheSame
-  pub communications : CommunicationsAreTheSame
   pub part_troubles : TroublesOfPartsAreTheSame
-  pub pair_troubles : TroublesOfPairsAreTheSame
   pub left : DelaysLeaveTheSame
   pub high : HighIsTheSame
   pub done : AllAreDoneInBoth

@@ -23,3 +23,4 @@ pub mod Reaching
 pub mod Choosing
 pub mod Lines
 pub mod Telling
+pub mod Written

@@ -1,5 +1,6 @@
 -- Laws of a driven system and of a model that closes it: their runs are the same, and so are their texts.
 use Rattle.std.specs.Prelude.{◌≡◌, ◌↔◌, ℕ, List, ◌++◌}
+use Rattle.std.specs.List.{flat_map}
 use Rattle.pz_syntax.specs.Classes.{ModelTree}
 use Rattle.pz_rules.specs.declared.moment.Moment.{Moment}
 use Rattle.pz_rules.specs.Configurations.{Config}
@@ -11,13 +12,16 @@ use Rattle.pz_trace.specs.declared.ending.Ending.{Ending}
 use Rattle.pz_trace.specs.Lines as trace
 use Rattle.pz_trace.specs.TraceText as trace_text
 use Rattle.pz_trace.specs.TraceText.{run_ending, events_text}
+use Rattle.pz_env_script.specs.declared.entry.Entry.{Entry}
+use Rattle.pz_env_script.specs.Scripts.{IsWritten}
+use Rattle.pz_env_rules.specs.Environment.{lines_of}
 use Rattle.pz_env_rules.specs.Joining.{Driving}
 use Rattle.pz_env_rules.specs.Driven.{Driven, IsDrivenStart}
 use Rattle.pz_env_rules.specs.Moments.{IsDrivenMoment}
 use Rattle.pz_env_rules.specs.Runs.{DrivenReaches, DrivenEnds}
 use Rattle.pz_env_rules.specs.ChosenRuns.{IsChosenDrivenRun}
 use Rattle.pz_env_rules.specs.Text.{drive_header, event_line, end_line, IsDriveText}
-use Rattle.pz_env_mimics.specs.Environments.{HasEnvironment}
+use Rattle.pz_env_mimics.specs.Environments.{ArePlain, HasEnvironment}
 use Rattle.pz_env_mimics.specs.Closing.{Closes, closed, SameEvent, SameEvents}
 
 module _ (g : Driving) (n : ModelTree) where
@@ -76,6 +80,12 @@ module _ (g : Driving) (n : ModelTree) where
     pub ends : Ends (closed g n) last standing (run_ending ending)
     pub is_text : text ≡ drive_header g.setting.limits.units ++ (events_text n events ++ trace.end_line n last.clock ending)
 
+-- Scripts
+
+-- the lines of a script that a text writes are plain
+abbrev pub WrittenLinesArePlain : Type 0
+WrittenLinesArePlain = (script : List Entry) → IsWritten script → ArePlain (lines_of script)
+
 -- Runs
 
 abbrev pub DrivenRunsAreClosed : Type 0
@@ -100,6 +110,9 @@ ChosenClosedAreDriven = (g : Driving) (n : ModelTree) (policy : Policy) (start l
 
 abbrev pub EventLinesAreSame : Type 0
 EventLinesAreSame = (g : Driving) (n : ModelTree) (e f : Event) → HasEnvironment g n → SameEvent g e f → event_line g e ≡ trace_text.event_line n f
+
+abbrev pub EventTextsAreSame : Type 0
+EventTextsAreSame = (g : Driving) (n : ModelTree) (es fs : List Event) → HasEnvironment g n → SameEvents g es fs → flat_map (event_line g) es ≡ events_text n fs
 
 abbrev pub EndLinesAreSame : Type 0
 EndLinesAreSame = (g : Driving) (n : ModelTree) (clock : ℕ) (ending : Ending) → HasEnvironment g n → end_line g clock ending ≡ trace.end_line n clock ending
