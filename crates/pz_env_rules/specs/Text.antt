@@ -34,8 +34,8 @@ module _ (g : Driving) where
   abbrev pub spot : ℕ → Pos → List ℕ
   spot process at = path_in process ++ (codes " " ++ pos_text at)
 
-  -- the names of classes by their numbers; the one behind them is that of the environment, which no object
-  -- has
+  -- The names of classes by their numbers. The one behind those of the model is that of the environment: no
+  -- object has that number.
   abbrev pub names_in : List (List ℕ)
   names_in = class_names g.setting.model ++ codes "ScriptEnv" ∷ []
 
