@@ -94,7 +94,8 @@ module _ (known : Known) (g : Driving) (n : ModelTree) (closes : Closes g n) whe
               ∙ ap (λ (q : Process). and_then is.left (settled seen is.pos q.term at.place)) e.process;
         }
 
-    acts_there : (does : Deed) (place : Place) (part : Term) (pos : Pos) (left : Result Process Trouble) → IsActive seen m.more.term place 1 part → does seen 1 part pos left
+    acts_there : (does : Deed) (place : Place) (part : Term) (pos : Pos) (left : Result Process Trouble) → IsActive seen m.more.term place 1 part
+        → does seen 1 part pos left
         → Acts (closed g n) c does (record { process = env; place = place }) (and_then left (settled seen pos m.more.term place))
     acts_there does place part pos left active is = record {
       process = m.more;
@@ -110,7 +111,8 @@ module _ (known : Known) (g : Driving) (n : ModelTree) (closes : Closes g n) whe
     }
 
     -- a wait is over
-    pub expired : (at : End) (result : Result Process Trouble) → Acts (closed g n) c Performs at result → at.process ≡ env → (left : ℕ) (x : Line) (rest : List Line) → d.environment.doing ≡ waits left x rest
+    pub expired : (at : End) (result : Result Process Trouble) → Acts (closed g n) c Performs at result → at.process ≡ env
+        → (left : ℕ) (x : Line) (rest : List Line) → d.environment.doing ≡ waits left x rest
         → Turns (offers x rest) (length m.more.state.objects) result
     expired at result is there left x rest waits_so =
         let e = env_acts Performs at result is there in
@@ -122,7 +124,8 @@ module _ (known : Known) (g : Driving) (n : ModelTree) (closes : Closes g n) whe
         waits_same i j x y r s e = (cc, cc)
 
     -- a send is done
-    pub gave : (at : End) (parcel : ParcelView) (result : Result Process Trouble) → Acts (closed g n) c (λ a f. Hands a f parcel) at result → at.process ≡ env → (x : Line) (rest : List Line) → d.environment.doing ≡ offers x rest
+    pub gave : (at : End) (parcel : ParcelView) (result : Result Process Trouble) → Acts (closed g n) c (λ a f. Hands a f parcel) at result
+        → at.process ≡ env → (x : Line) (rest : List Line) → d.environment.doing ≡ offers x rest
         → Turns (begins rest) (length m.more.state.objects) result
     gave at parcel result is there x rest offers_so =
         let e = env_acts (λ a f. Hands a f parcel) at result is there in
@@ -131,7 +134,8 @@ module _ (known : Known) (g : Driving) (n : ModelTree) (closes : Closes g n) whe
         subst (λ (k : List Line). Turns (begins k) (length m.more.state.objects) result) same.1 h.becomes
 
     -- a receive is done
-    pub took : (at : End) (parcel : ParcelView) (result : Result Process Trouble) → Acts (closed g n) c (λ a f. Takes a f parcel) at result → at.process ≡ env → (x : Line) (rest : List Line) → d.environment.doing ≡ offers x rest
+    pub took : (at : End) (parcel : ParcelView) (result : Result Process Trouble) → Acts (closed g n) c (λ a f. Takes a f parcel) at result
+        → at.process ≡ env → (x : Line) (rest : List Line) → d.environment.doing ≡ offers x rest
         → TakenOr seen port Fits_line x rest parcel result
     took at parcel result is there x rest offers_so =
         let e = env_acts (λ a f. Takes a f parcel) at result is there in
@@ -141,25 +145,29 @@ module _ (known : Known) (g : Driving) (n : ModelTree) (closes : Closes g n) whe
         (subst (λ (k : Line). TakenOr seen port Fits_line k h.rest parcel result) same.0 h.taken)
 
     -- they are done
-    pub expires_so : (left : ℕ) (x : Line) (rest : List Line) → d.environment.doing ≡ waits left x rest → (r : Result Process Trouble) × Acts (closed g n) c Performs env_there r
+    pub expires_so : (left : ℕ) (x : Line) (rest : List Line) → d.environment.doing ≡ waits left x rest
+        → (r : Result Process Trouble) × Acts (closed g n) c Performs env_there r
     expires_so left x rest is =
         let h = moving.performs_there seen closes.limits.units closes.limits.depth closes.limits.height port Fits_line (fit_plain known g n closes) left x rest m.more.term (subst (λ (k : Doing). IsDoing port Fits_line k m.more.term) is m.does) in
         let place : 0 ∷ 0 ∷ [] ≡ here = sym (ap place_of is) in
         let r = and_then (Ok (done_in m.more.state)) (settled seen (at_line x) m.more.term here) in
         (r, acts_there Performs here h.part (at_line x) (Ok (done_in m.more.state)) (subst (λ (k : Place). IsActive seen m.more.term k 1 h.part) place h.active) h.performs)
 
-    exchange_there : (x : Line) (rest : List Line) → d.environment.doing ≡ offers x rest → IsActive seen m.more.term here 1 (leaf (exchange (port x) x x.entry.transfer))
+    exchange_there : (x : Line) (rest : List Line) → d.environment.doing ≡ offers x rest
+        → IsActive seen m.more.term here 1 (leaf (exchange (port x) x x.entry.transfer))
     exchange_there x rest is =
         let h = offers_there seen closes.limits.units closes.limits.depth port Fits_line (fit_plain known g n closes) x rest m.more.term (subst (λ (k : Doing). IsDoing port Fits_line k m.more.term) is m.does) in
         subst (λ (k : Place). IsActive seen m.more.term k 1 (leaf (exchange (port x) x x.entry.transfer))) (sym (ap place_of is)) h.active
 
-    pub gives_so : (x : Line) (rest : List Line) (values : List Value) → Gives g d x rest values → (r : Result Process Trouble) × Acts (closed g n) c (λ a f. Hands a f (plain g values)) env_there r
+    pub gives_so : (x : Line) (rest : List Line) (values : List Value) → Gives g d x rest values
+        → (r : Result Process Trouble) × Acts (closed g n) c (λ a f. Hands a f (plain g values)) env_there r
     gives_so x rest values is =
         let fit = (paired.offered known g n closes d c m x rest is.doing).fit in
         let r = and_then (Ok (done_in m.more.state)) (settled seen (at_line x) m.more.term here) in
         (r, acts_there (λ a f. Hands a f (plain g values)) here (leaf (exchange (port x) x x.entry.transfer)) (at_line x) (Ok (done_in m.more.state)) (exchange_there x rest is.doing) (moving.hands_there seen closes.limits.units closes.limits.depth closes.limits.height port Fits_line (fit_plain known g n closes) x values (plain g values) fit is.sends is.paid refl))
 
-    pub takes_so : (x : Line) (rest : List Line) (count : ℕ) (parcel : ParcelView) → Gets g d x rest count → (r : Result Process Trouble) × Acts (closed g n) c (λ a f. Takes a f parcel) env_there r
+    pub takes_so : (x : Line) (rest : List Line) (count : ℕ) (parcel : ParcelView) → Gets g d x rest count
+        → (r : Result Process Trouble) × Acts (closed g n) c (λ a f. Takes a f parcel) env_there r
     takes_so x rest count parcel is =
         let h = moving.takes_there seen closes.limits.units closes.limits.depth closes.limits.height port Fits_line (fit_plain known g n closes) x count parcel is.receives in
         (and_then h.0 (settled seen (at_line x) m.more.term here), acts_there (λ a f. Takes a f parcel) here (leaf (exchange (port x) x x.entry.transfer)) (at_line x) h.0 (exchange_there x rest is.doing) h.1)

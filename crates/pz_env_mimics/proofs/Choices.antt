@@ -41,7 +41,8 @@ module _ (known : Known) (g : Driving) (n : ModelTree) (closes : Closes g n) whe
   same_action q _ _ (matching.communication w s t r u message parcel is are) =
       closing.communication w s t r u message parcel (same_end q s t is) (same_end q r u are)
 
-  pub same_acted : (q : Place) (at clock k number : ℕ) (a b : Action) → at ≡ clock → SameActions env [] q a b → SameEvent g (acted clock k number a) (acted at k number b)
+  pub same_acted : (q : Place) (at clock k number : ℕ) (a b : Action) → at ≡ clock → SameActions env [] q a b
+      → SameEvent g (acted clock k number a) (acted at k number b)
   same_acted q at clock k number a b e is =
       subst (λ (t : ℕ). SameEvent g (acted clock k number a) (acted t k number b)) (sym e) (closing.acted clock k number a b (same_action q a b is))
 

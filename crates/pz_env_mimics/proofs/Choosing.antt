@@ -36,7 +36,8 @@ module _ (known : Known) (g : Driving) (n : ModelTree) (closes : Closes g n) (po
     pub same : SameEvents g events told
     pub both : Both end last
 
-  pub chosen_on : (j : ℕ) (d : Driven) (events : List Event) (end : Driven) (ending : Ending) → IsChosenDrivenRun g policy j d events end ending → (c : Config) → Both d c → ChosenOn j c events end ending
+  pub chosen_on : (j : ℕ) (d : Driven) (events : List Event) (end : Driven) (ending : Ending) → IsChosenDrivenRun g policy j d events end ending
+      → (c : Config) → Both d c → ChosenOn j c events end ending
   chosen_on _ _ _ _ _ (driven_chosen.ends j d k ending moment decides) c m =
       record {
         told = [];
@@ -86,7 +87,8 @@ module _ (known : Known) (g : Driving) (n : ModelTree) (closes : Closes g n) (po
     pub same : SameEvents g events told
     pub both : Both end last
 
-  pub chosen_back : (j : ℕ) (c : Config) (told : List Event) (last : Config) (ending : Ending) → IsChosenRun (closed g n) policy j c told last ending → (d : Driven) → Both d c → ChosenBack j d told last ending
+  pub chosen_back : (j : ℕ) (c : Config) (told : List Event) (last : Config) (ending : Ending) → IsChosenRun (closed g n) policy j c told last ending
+      → (d : Driven) → Both d c → ChosenBack j d told last ending
   chosen_back _ _ _ _ _ (chosen.ends j c k ending moment decides) d m =
       record {
         events = [];

@@ -43,10 +43,12 @@ around_never_performs a g _ _ _ is (actions.elapses at e) = is
 around_never_performs a g _ _ _ is (actions.expires left at) = is
 around_never_performs a g _ _ _ is (actions.calls at method args results r s locals body gives is_method) = is
 
-pub around_never_hands : (a : Context) (g : ℕ) (parcel : ParcelView) (part : Term) (at : Pos) (r : Result Process Trouble) → IsAround part → Hands a g parcel part at r → ⊥
+pub around_never_hands : (a : Context) (g : ℕ) (parcel : ParcelView) (part : Term) (at : Pos) (r : Result Process Trouble) → IsAround part
+    → Hands a g parcel part at r → ⊥
 around_never_hands a g parcel _ _ _ is (messages.hands at port name args block values s r left gives packed does) = is
 
-pub around_never_takes : (a : Context) (g : ℕ) (parcel : ParcelView) (part : Term) (at : Pos) (r : Result Process Trouble) → IsAround part → Takes a g parcel part at r → ⊥
+pub around_never_takes : (a : Context) (g : ℕ) (parcel : ParcelView) (part : Term) (at : Pos) (r : Result Process Trouble) → IsAround part
+    → Takes a g parcel part at r → ⊥
 around_never_takes a g parcel _ _ _ is (messages.takes at port name into condition block r left fits gives) = is
 around_never_takes a g parcel _ _ _ is (messages.full at port name into condition block unfit) = is
 
@@ -61,7 +63,8 @@ done_never_takes a g parcel at r is = elim is [ ]
 
 -- A wait, and an exchange
 
-pub waiting_performs : (a : Context) (g : ℕ) (x : Line) (left : ℕ) (t : Term) (at : Pos) (r : Result Process Trouble) → IsWaiting x left t → Performs a g t at r → (at ≡ at_line x) × (r ≡ Ok (done_in a.state))
+pub waiting_performs : (a : Context) (g : ℕ) (x : Line) (left : ℕ) (t : Term) (at : Pos) (r : Result Process Trouble) → IsWaiting x left t
+    → Performs a g t at r → (at ≡ at_line x) × (r ≡ Ok (done_in a.state))
 waiting_performs a g x _ _ _ _ not_begun (actions.elapses at e) = (refl, refl)
 waiting_performs a g x _ _ _ _ (begun left) (actions.expires _ at) = (refl, refl)
 
@@ -70,15 +73,18 @@ waiting_performs_there a g x _ _ not_begun =
     actions.elapses (at_line x) (expression.literal (at_line x) (literal.Int x.entry.wait))
 waiting_performs_there a g x _ _ (begun left) = actions.expires left (at_line x)
 
-pub waiting_never_hands : (a : Context) (g : ℕ) (parcel : ParcelView) (x : Line) (left : ℕ) (t : Term) (at : Pos) (r : Result Process Trouble) → IsWaiting x left t → Hands a g parcel t at r → ⊥
+pub waiting_never_hands : (a : Context) (g : ℕ) (parcel : ParcelView) (x : Line) (left : ℕ) (t : Term) (at : Pos) (r : Result Process Trouble)
+    → IsWaiting x left t → Hands a g parcel t at r → ⊥
 waiting_never_hands a g parcel x _ _ at r not_begun is = elim is [ ]
 waiting_never_hands a g parcel x _ _ at r (begun left) is = elim is [ ]
 
-pub waiting_never_takes : (a : Context) (g : ℕ) (parcel : ParcelView) (x : Line) (left : ℕ) (t : Term) (at : Pos) (r : Result Process Trouble) → IsWaiting x left t → Takes a g parcel t at r → ⊥
+pub waiting_never_takes : (a : Context) (g : ℕ) (parcel : ParcelView) (x : Line) (left : ℕ) (t : Term) (at : Pos) (r : Result Process Trouble)
+    → IsWaiting x left t → Takes a g parcel t at r → ⊥
 waiting_never_takes a g parcel x _ _ at r not_begun is = elim is [ ]
 waiting_never_takes a g parcel x _ _ at r (begun left) is = elim is [ ]
 
-pub exchange_never_performs : (a : Context) (g p : ℕ) (x : Line) (transfer : Transfer) (at : Pos) (r : Result Process Trouble) → Performs a g (leaf (exchange p x transfer)) at r → ⊥
+pub exchange_never_performs : (a : Context) (g p : ℕ) (x : Line) (transfer : Transfer) (at : Pos) (r : Result Process Trouble)
+    → Performs a g (leaf (exchange p x transfer)) at r → ⊥
 exchange_never_performs a g p x (Send values) at r is = elim is [ ]
 exchange_never_performs a g p x (Receive count) at r is = elim is [ ]
 
@@ -91,12 +97,14 @@ module _ (a : Context) (deep : 1 ≤ a.setting.limits.depth) (g p : ℕ) (x : Li
     pub parcel_is : parcel ≡ record { values = values; objects = [] }
     pub leaves : r ≡ Ok (done_in a.state)
 
-  pub exchange_hands : (transfer : Transfer) (at : Pos) (r : Result Process Trouble) → All IsConstant (values_in transfer) → Hands a g parcel (leaf (exchange p x transfer)) at r → Handed transfer at r
+  pub exchange_hands : (transfer : Transfer) (at : Pos) (r : Result Process Trouble) → All IsConstant (values_in transfer)
+      → Hands a g parcel (leaf (exchange p x transfer)) at r → Handed transfer at r
   exchange_hands (Receive count) at r plain is = elim is [ ]
   exchange_hands (Send values) _ _ plain (messages.hands at port name args block found s r left gives packed does) =
       by (cases_lt a.setting.limits.units (length values))
     where
-      by : (a.setting.limits.units < length values) ⊎ (length values ≤ a.setting.limits.units) → Handed (Send values) (at_line x) (and_then r (λ _. Ok (done_in left)))
+      by : (a.setting.limits.units < length values) ⊎ (length values ≤ a.setting.limits.units)
+          → Handed (Send values) (at_line x) (and_then r (λ _. Ok (done_in left)))
       by (inl more) =
           absurd (ok_apart found (Spent a.process (at_line x)) (arguments_only_spent a g (at_line x) deep values plain more (Ok found) s gives))
       by (inr low) =
@@ -112,7 +120,8 @@ module _ (a : Context) (deep : 1 ≤ a.setting.limits.depth) (g p : ℕ) (x : Li
                 ∙ ap (λ (z : StateView). let q : Result Process Trouble = Ok (done_in z) in q) (does.1 ∙ only.1);
           }
 
-  pub exchange_hands_there : (transfer : Transfer) (values : List Value) → transfer ≡ Send values → All IsConstant values → length values ≤ a.setting.limits.units → parcel ≡ record { values = values; objects = [] }
+  pub exchange_hands_there : (transfer : Transfer) (values : List Value) → transfer ≡ Send values → All IsConstant values
+      → length values ≤ a.setting.limits.units → parcel ≡ record { values = values; objects = [] }
       → Hands a g parcel (leaf (exchange p x transfer)) (at_line x) (Ok (done_in a.state))
   exchange_hands_there transfer values is plain low parcel_is =
       subst (λ (q : Transfer). Hands a g parcel (leaf (exchange p x q)) (at_line x) (Ok (done_in a.state))) (sym is)
@@ -123,7 +132,8 @@ module _ (a : Context) (deep : 1 ≤ a.setting.limits.depth) (g p : ℕ) (x : Li
 
 -- what a receive leaves, where the parcel fits and where it does not
 pub data TakenBy (a : Context) (x : Line) (parcel : ParcelView) : Result Process Trouble → Type 0 where
-  taken : (s : StateView) → length a.state.objects + length parcel.objects ≤ object_limit → length s.objects ≡ length a.state.objects + length parcel.objects → TakenBy a x parcel (Ok (done_in s))
+  taken : (s : StateView) → length a.state.objects + length parcel.objects ≤ object_limit
+      → length s.objects ≡ length a.state.objects + length parcel.objects → TakenBy a x parcel (Ok (done_in s))
   is_full : ¬ Fits a parcel → TakenBy a x parcel (fault StoreFull a.process (at_line x))
 
 module _ (a : Context) (g p : ℕ) (x : Line) (parcel : ParcelView) where
@@ -133,7 +143,8 @@ module _ (a : Context) (g p : ℕ) (x : Line) (parcel : ParcelView) where
     pub at_it : at ≡ at_line x
     pub leaves : TakenBy a x parcel r
 
-  pub exchange_takes : (transfer : Transfer) (at : Pos) (r : Result Process Trouble) → Takes a g parcel (leaf (exchange p x transfer)) at r → Received transfer at r
+  pub exchange_takes : (transfer : Transfer) (at : Pos) (r : Result Process Trouble) → Takes a g parcel (leaf (exchange p x transfer)) at r
+      → Received transfer at r
   exchange_takes (Send values) at r is = elim is [ ]
   exchange_takes (Receive count) _ _ (messages.takes at port name into condition block r left fits does) =
       record {
@@ -152,7 +163,8 @@ module _ (a : Context) (g p : ℕ) (x : Line) (parcel : ParcelView) where
   exchange_takes (Receive count) _ _ (messages.full at port name into condition block unfit) =
       record { count = count; receives = refl; at_it = refl; leaves = is_full unfit }
 
-  pub exchange_takes_there : (transfer : Transfer) (count : ℕ) → transfer ≡ Receive count → (r : Result Process Trouble) × Takes a g parcel (leaf (exchange p x transfer)) (at_line x) r
+  pub exchange_takes_there : (transfer : Transfer) (count : ℕ) → transfer ≡ Receive count
+      → (r : Result Process Trouble) × Takes a g parcel (leaf (exchange p x transfer)) (at_line x) r
   exchange_takes_there transfer count is = by (cases_lt object_limit (length a.state.objects + length parcel.objects))
     where
       by : (object_limit < length a.state.objects + length parcel.objects) ⊎ (length a.state.objects + length parcel.objects ≤ object_limit)

@@ -30,22 +30,26 @@ module _ (port : Line → ℕ) (Fit : Line → Type 0) where
   pub data PartIs : Doing → Term → Place → ℕ → Term → Type 0 where
     around_it : (doing : Doing) (whole : Term) (place : Place) (g : ℕ) (part : Term) → IsAround part → PartIs doing whole place g part
     ended : (whole : Term) (place : Place) (g : ℕ) → PartIs over whole place g done
-    delayed : (left : ℕ) (x : Line) (rest : List Line) (t : Term) → Fit x → All Fit rest → IsWaiting x left t → PartIs (waits left x rest) (called (sequence t (behind port x rest))) (0 ∷ 0 ∷ []) 1 t
+    delayed : (left : ℕ) (x : Line) (rest : List Line) (t : Term) → Fit x → All Fit rest → IsWaiting x left t
+        → PartIs (waits left x rest) (called (sequence t (behind port x rest))) (0 ∷ 0 ∷ []) 1 t
     exchanges : (x : Line) (rest : List Line) → Fit x → All Fit rest
         → PartIs (offers x rest) (called (offering port x rest)) (place_of (offers x rest)) 1 (leaf (exchange (port x) x x.entry.transfer))
 
-  pub part_is : (a : Context) (doing : Doing) (whole : Term) (place : Place) (g : ℕ) (part : Term) → IsDoing port Fit doing whole → IsActive a whole place g part → PartIs doing whole place g part
+  pub part_is : (a : Context) (doing : Doing) (whole : Term) (place : Place) (g : ℕ) (part : Term) → IsDoing port Fit doing whole
+      → IsActive a whole place g part → PartIs doing whole place g part
   part_is a _ _ place g part finished act =
       subst (λ (t : Term). PartIs over done place g t) (sym (part_done a place g part act)) (ended done place g)
   part_is a _ _ place g part (waiting_for left x rest t fit fits is) act =
       by place g part (part_waiting a port x rest left t is place g part act)
     where
-      by : (place : Place) (g : ℕ) (part : Term) → IsPart (0 ∷ 0 ∷ []) t place g part → PartIs (waits left x rest) (called (sequence t (behind port x rest))) place g part
+      by : (place : Place) (g : ℕ) (part : Term) → IsPart (0 ∷ 0 ∷ []) t place g part
+          → PartIs (waits left x rest) (called (sequence t (behind port x rest))) place g part
       by _ _ _ itself = delayed left x rest t fit fits is
       by _ _ _ (outer place g part around) = around_it (waits left x rest) (called (sequence t (behind port x rest))) place g part around
   part_is a _ _ place g part (offering_it x rest fit fits) act = by place g part (part_offering a port x rest place g part act)
     where
-      by : (place : Place) (g : ℕ) (part : Term) → IsPart (place_of (offers x rest)) (leaf (exchange (port x) x x.entry.transfer)) place g part → PartIs (offers x rest) (called (offering port x rest)) place g part
+      by : (place : Place) (g : ℕ) (part : Term) → IsPart (place_of (offers x rest)) (leaf (exchange (port x) x x.entry.transfer)) place g part
+          → PartIs (offers x rest) (called (offering port x rest)) place g part
       by _ _ _ itself = exchanges x rest fit fits
       by _ _ _ (outer place g part around) = around_it (offers x rest) (called (offering port x rest)) place g part around
 
@@ -112,7 +116,8 @@ module _ (a : Context) (enough : 1 ≤ a.setting.limits.units) (deep : 1 ≤ a.s
 
   -- What it says is what it does
 
-  pub can_only : (doing : Doing) (whole : Term) (place : Place) (g : ℕ) (part : Term) (kind : Kind) (at : Pos) → PartIs port Fit doing whole place g part → Can a g part kind at → Expires doing place kind at
+  pub can_only : (doing : Doing) (whole : Term) (place : Place) (g : ℕ) (part : Term) (kind : Kind) (at : Pos)
+      → PartIs port Fit doing whole place g part → Can a g part kind at → Expires doing place kind at
   can_only _ _ _ _ _ kind at (around_it doing whole place g part around) can = absurd (around_cannot a g part kind at around can)
   can_only _ _ _ _ _ kind at (ended whole place g) can = absurd (done_cannot a g kind at can)
   can_only _ _ _ _ _ kind at (delayed left x rest t fit fits is) can =
@@ -121,7 +126,8 @@ module _ (a : Context) (enough : 1 ≤ a.setting.limits.units) (deep : 1 ≤ a.s
   can_only _ _ _ _ _ kind at (exchanges x rest fit fits) can =
       absurd (speaking.exchange_cannot a enough deep 1 (port x) x x.entry.transfer kind at can)
 
-  pub sends_only : (doing : Doing) (whole : Term) (place : Place) (g : ℕ) (part : Term) (at : Pos) (number : ℕ) (message : List ℕ) (parcel : ParcelView) → PartIs port Fit doing whole place g part → Sends a g part at number message parcel
+  pub sends_only : (doing : Doing) (whole : Term) (place : Place) (g : ℕ) (part : Term) (at : Pos) (number : ℕ) (message : List ℕ) (parcel : ParcelView)
+      → PartIs port Fit doing whole place g part → Sends a g part at number message parcel
       → GivesOut port Fit a.setting.limits.units doing place at number message parcel
   sends_only _ _ _ _ _ at number message parcel (around_it doing whole place g part around) is =
       absurd (around_never_sends a g part at number message parcel around is)
@@ -146,7 +152,8 @@ module _ (a : Context) (enough : 1 ≤ a.setting.limits.units) (deep : 1 ≤ a.s
         parcel_is = h.parcel_is;
       }
 
-  pub receives_only : (doing : Doing) (whole : Term) (place : Place) (g : ℕ) (part : Term) (at : Pos) (number : ℕ) (message : List ℕ) (count : ℕ) → PartIs port Fit doing whole place g part → Receives part at number message count
+  pub receives_only : (doing : Doing) (whole : Term) (place : Place) (g : ℕ) (part : Term) (at : Pos) (number : ℕ) (message : List ℕ) (count : ℕ)
+      → PartIs port Fit doing whole place g part → Receives part at number message count
       → TakesIn port Fit doing place at number message count
   receives_only _ _ _ _ _ at number message count (around_it doing whole place g part around) is =
       absurd (around_never_receives part at number message count around is)
@@ -168,7 +175,8 @@ module _ (a : Context) (enough : 1 ≤ a.setting.limits.units) (deep : 1 ≤ a.s
         name = h.name;
       }
 
-  pub judges_only : (doing : Doing) (whole : Term) (place : Place) (g : ℕ) (part : Term) (parcel : ParcelView) (verdict : Result Bool Trouble) → PartIs port Fit doing whole place g part → Judges a g parcel part verdict → verdict ≡ Ok true
+  pub judges_only : (doing : Doing) (whole : Term) (place : Place) (g : ℕ) (part : Term) (parcel : ParcelView) (verdict : Result Bool Trouble)
+      → PartIs port Fit doing whole place g part → Judges a g parcel part verdict → verdict ≡ Ok true
   judges_only _ _ _ _ _ parcel verdict (around_it doing whole place g part around) is =
       absurd (around_never_judges a g parcel part verdict around is)
   judges_only _ _ _ _ _ parcel verdict (ended whole place g) is = absurd (done_never_judges a g parcel verdict is)
@@ -177,7 +185,8 @@ module _ (a : Context) (enough : 1 ≤ a.setting.limits.units) (deep : 1 ≤ a.s
   judges_only _ _ _ _ _ parcel verdict (exchanges x rest fit fits) is =
       speaking.exchange_judged a enough deep 1 (port x) x x.entry.transfer parcel verdict is
 
-  pub asks_only : (doing : Doing) (whole : Term) (place : Place) (g : ℕ) (part : Term) (trouble : Trouble) → PartIs port Fit doing whole place g part → Asks a g part trouble → LacksUnits a.setting.limits.units a.process doing place trouble
+  pub asks_only : (doing : Doing) (whole : Term) (place : Place) (g : ℕ) (part : Term) (trouble : Trouble) → PartIs port Fit doing whole place g part
+      → Asks a g part trouble → LacksUnits a.setting.limits.units a.process doing place trouble
   asks_only _ _ _ _ _ trouble (around_it doing whole place g part around) is =
       absurd (around_never_asks a g part trouble around is)
   asks_only _ _ _ _ _ trouble (ended whole place g) is = absurd (done_never_asks a g trouble is)
@@ -187,7 +196,8 @@ module _ (a : Context) (enough : 1 ≤ a.setting.limits.units) (deep : 1 ≤ a.s
       let h = speaking.exchange_lacks a enough deep 1 (port x) x x.entry.transfer trouble (constants x fit) is in
       record { line = x; rest = rest; values = h.values; is = refl; there = refl; sends = h.sends; more = h.more; trouble_is = h.is }
 
-  pub delays_only : (doing : Doing) (whole : Term) (place : Place) (g : ℕ) (part : Term) (left : ℕ) → PartIs port Fit doing whole place g part → Delays a g part left → HasLeft doing left
+  pub delays_only : (doing : Doing) (whole : Term) (place : Place) (g : ℕ) (part : Term) (left : ℕ) → PartIs port Fit doing whole place g part
+      → Delays a g part left → HasLeft doing left
   delays_only _ _ _ _ _ left (around_it doing whole place g part around) is =
       absurd (around_never_delays a g part left around is)
   delays_only _ _ _ _ _ left (ended whole place g) is = absurd (done_never_delays a g left is)
@@ -231,10 +241,12 @@ module _ (a : Context) (enough : 1 ≤ a.setting.limits.units) (deep : 1 ≤ a.s
   sends_there x values fit is low =
       speaking.exchange_sends a enough deep 1 (port x) x x.entry.transfer values is (sent_constants x values fit is) low
 
-  pub receives_there : (x : Line) (count : ℕ) → x.entry.transfer ≡ Receive count → Receives (leaf (exchange (port x) x x.entry.transfer)) (at_line x) (port x) x.entry.message count
+  pub receives_there : (x : Line) (count : ℕ) → x.entry.transfer ≡ Receive count
+      → Receives (leaf (exchange (port x) x x.entry.transfer)) (at_line x) (port x) x.entry.message count
   receives_there x count is = speaking.exchange_receives a enough deep (port x) x x.entry.transfer count is
 
-  pub judges_there : (x : Line) (count : ℕ) (parcel : ParcelView) → x.entry.transfer ≡ Receive count → Judges a 1 parcel (leaf (exchange (port x) x x.entry.transfer)) (Ok true)
+  pub judges_there : (x : Line) (count : ℕ) (parcel : ParcelView) → x.entry.transfer ≡ Receive count
+      → Judges a 1 parcel (leaf (exchange (port x) x x.entry.transfer)) (Ok true)
   judges_there x count parcel is =
       speaking.exchange_judges a enough deep 1 (port x) x x.entry.transfer count parcel is
 

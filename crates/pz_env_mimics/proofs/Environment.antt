@@ -30,7 +30,8 @@ called t = frame 1 0 [] t
 -- the environment that does this is left as this term; all lines that are left are of this kind
 pub data IsDoing (port : Line → ℕ) (Fit : Line → Type 0) : Doing → Term → Type 0 where
   finished : IsDoing port Fit over done
-  waiting_for : (left : ℕ) (x : Line) (rest : List Line) (t : Term) → Fit x → All Fit rest → IsWaiting x left t → IsDoing port Fit (waits left x rest) (called (sequence t (behind port x rest)))
+  waiting_for : (left : ℕ) (x : Line) (rest : List Line) (t : Term) → Fit x → All Fit rest → IsWaiting x left t
+      → IsDoing port Fit (waits left x rest) (called (sequence t (behind port x rest)))
   offering_it : (x : Line) (rest : List Line) → Fit x → All Fit rest → IsDoing port Fit (offers x rest) (called (offering port x rest))
 
 -- the place of the part that acts
@@ -56,7 +57,8 @@ abbrev pub IsBare : Context → Term → Type 0
 IsBare a t = (i : ℕ) → Reached a 1 t i → ⊥
 
 module _ (a : Context) (t : Term) (bare : IsBare a t) (at : Place) where
-  part_itself : (place : Place) (g : ℕ) (part : Term) → Active a 1 t place g part → (outside : Place → Place) → outside [] ≡ at → IsPart at t (outside place) g part
+  part_itself : (place : Place) (g : ℕ) (part : Term) → Active a 1 t place g part → (outside : Place → Place) → outside [] ≡ at
+      → IsPart at t (outside place) g part
   part_itself _ _ _ (here _ _) outside is = subst (λ (p : Place). IsPart at t p 1 t) (sym is) itself
   part_itself _ _ _ (inside _ _ i place g part is rest) outside at_is = absurd (bare i is)
 
@@ -71,7 +73,8 @@ module _ (a : Context) (t : Term) (bare : IsBare a t) where
       by (suc i) e act = absurd (omega (arith, e))
 
   -- in a sequence in a frame
-  pub part_in_sequence : (more : Steps) (place : Place) (g : ℕ) (part : Term) → Active a 0 (called (sequence t more)) place g part → IsPart (0 ∷ 0 ∷ []) t place g part
+  pub part_in_sequence : (more : Steps) (place : Place) (g : ℕ) (part : Term) → Active a 0 (called (sequence t more)) place g part
+      → IsPart (0 ∷ 0 ∷ []) t place g part
   part_in_sequence more _ _ _ (here _ _) = outer [] 0 (called (sequence t more)) tt
   part_in_sequence more _ _ _ (inside _ _ i place g part is rest) = by i is rest
     where
@@ -104,14 +107,17 @@ module _ (a : Context) (port : Line → ℕ) where
   waiting_bare x _ _ not_begun i is = is
   waiting_bare x _ _ (begun left) i is = is
 
-  pub part_waiting : (x : Line) (rest : List Line) (left : ℕ) (t : Term) → IsWaiting x left t → (place : Place) (g : ℕ) (part : Term) → Active a 0 (called (sequence t (behind port x rest))) place g part → IsPart (0 ∷ 0 ∷ []) t place g part
+  pub part_waiting : (x : Line) (rest : List Line) (left : ℕ) (t : Term) → IsWaiting x left t → (place : Place) (g : ℕ) (part : Term)
+      → Active a 0 (called (sequence t (behind port x rest))) place g part → IsPart (0 ∷ 0 ∷ []) t place g part
   part_waiting x rest left t is = part_in_sequence a t (waiting_bare x left t is) (behind port x rest)
 
-  pub part_offering : (x : Line) (rest : List Line) (place : Place) (g : ℕ) (part : Term) → Active a 0 (called (offering port x rest)) place g part → IsPart (place_of (offers x rest)) (leaf (exchange (port x) x x.entry.transfer)) place g part
+  pub part_offering : (x : Line) (rest : List Line) (place : Place) (g : ℕ) (part : Term) → Active a 0 (called (offering port x rest)) place g part
+      → IsPart (place_of (offers x rest)) (leaf (exchange (port x) x x.entry.transfer)) place g part
   part_offering x [] = part_called a (leaf (exchange (port x) x x.entry.transfer)) (λ i is. is)
   part_offering x (y ∷ ys) = part_in_sequence a (leaf (exchange (port x) x x.entry.transfer)) (λ i is. is) (statements port (y ∷ ys))
 
-  pub active_offering : (x : Line) (rest : List Line) → Active a 0 (called (offering port x rest)) (place_of (offers x rest)) 1 (leaf (exchange (port x) x x.entry.transfer))
+  pub active_offering : (x : Line) (rest : List Line)
+      → Active a 0 (called (offering port x rest)) (place_of (offers x rest)) 1 (leaf (exchange (port x) x x.entry.transfer))
   active_offering x [] = active_called a (leaf (exchange (port x) x x.entry.transfer))
   active_offering x (y ∷ ys) =
       active_in_sequence a (leaf (exchange (port x) x x.entry.transfer)) (statements port (y ∷ ys))

@@ -46,7 +46,8 @@ pub record IsAnswer (a : Answer Value) (y : Value) (m : Memory) (u d : ℕ) : Ty
   pub units : u ≡ 1
   pub depth : d ≡ 1
 
-constant_answer : {model : ModelTree} {now : ℕ} {p : Location} {m : Memory} {at : Pos} {x : Literal} {a : Answer Value} {u d : ℕ} → Evaluates model now p m (expression.literal at x) a u d → IsAnswer a (constant x) m u d
+constant_answer : {model : ModelTree} {now : ℕ} {p : Location} {m : Memory} {at : Pos} {x : Literal} {a : Answer Value} {u d : ℕ}
+    → Evaluates model now p m (expression.literal at x) a u d → IsAnswer a (constant x) m u d
 constant_answer a_constant = record { answer = refl; units = refl; depth = refl }
 
 module _ (model : ModelTree) (now frame : ℕ) (s : StateView) (at : Pos) (x : Literal) (allowed : Allowance) (paid : 1 ≤ allowed.units) (deep : 1 ≤ allowed.depth) where
@@ -111,7 +112,8 @@ module _ (model : ModelTree) (now : ℕ) (p : Location) (m : Memory) (at : Pos) 
         deep = max_low 1 rest.depth (omega arith) rest.deep;
       }
 
-  pub only_derived : (values before : List Value) (a : Answer (List Value)) (u d : ℕ) → All IsConstant values → Arguments model now p m before (literals at values) a u d → AreAnswers a (before ++ values) m u d (length values)
+  pub only_derived : (values before : List Value) (a : Answer (List Value)) (u d : ℕ) → All IsConstant values
+      → Arguments model now p m before (literals at values) a u d → AreAnswers a (before ++ values) m u d (length values)
   only_derived [] before _ _ _ plain no_argument =
       record { answer = ap (λ (l : List Value). gives l m) (sym (append-nil before)); units = refl; depth = omega arith }
   only_derived (v ∷ vs) before a _ _ plain (an_argument {m1 = n} {y = y} {u1 = u1} {d1 = d1} {u2 = u2} {d2 = d2} first behind) =
@@ -150,10 +152,12 @@ module _ (model : ModelTree) (now frame : ℕ) (s : StateView) (at : Pos) (value
   pub all_found : length values ≤ allowed.units → FindsAll model now frame s (literals at values) allowed (listed.Values values) s
   all_found paid = all_values (within_all paid) refl
 
-  answers_are : (a : Answer (List Value)) → (w : Within (AllComeTo model now frame s (literals at values)) allowed a) → AreAnswers a values (outside s) w.units w.depth (length values)
+  answers_are : (a : Answer (List Value)) → (w : Within (AllComeTo model now frame s (literals at values)) allowed a)
+      → AreAnswers a values (outside s) w.units w.depth (length values)
   answers_are a w = only_derived model now (in_process frame) (outside s) at values [] a w.units w.depth plain w.derivation
 
-  pub all_only : length values ≤ allowed.units → (o : Listed) (s1 : StateView) → FindsAll model now frame s (literals at values) allowed o s1 → (o ≡ listed.Values values) × (s1 ≡ s)
+  pub all_only : length values ≤ allowed.units → (o : Listed) (s1 : StateView) → FindsAll model now frame s (literals at values) allowed o s1
+      → (o ≡ listed.Values values) × (s1 ≡ s)
   all_only paid _ _ (all_values {a = b} {ys = ys} {m = n} w e) =
       let is = answers_are b w in
       let same = gives_same values ys (outside s) n (ap ended_list (sym is.answer) ∙ e) in
@@ -172,7 +176,8 @@ module _ (model : ModelTree) (now frame : ℕ) (s : StateView) (at : Pos) (value
   pub all_spent : allowed.units < length values → FindsAll model now frame s (literals at values) allowed listed.Spent s
   all_spent many = all_too_much (nothing_within many)
 
-  pub only_spent : allowed.units < length values → (o : Listed) (s1 : StateView) → FindsAll model now frame s (literals at values) allowed o s1 → (o ≡ listed.Spent) × (s1 ≡ s)
+  pub only_spent : allowed.units < length values → (o : Listed) (s1 : StateView) → FindsAll model now frame s (literals at values) allowed o s1
+      → (o ≡ listed.Spent) × (s1 ≡ s)
   only_spent many _ _ (all_values {a = b} w e) = absurd (nothing_within many b w)
   only_spent many _ _ (one_fault {kind = kind} {at = place} w) = absurd (nothing_within many (stops (fault kind place)) w)
   only_spent many _ _ (all_too_much nothing) = (refl, refl)
@@ -207,7 +212,8 @@ module _ (a : Context) (f : ℕ) (at : Pos) (deep : 1 ≤ a.setting.limits.depth
         by (v ∷ vs) all low =
             record { outcome = listed.Values (v ∷ vs); finds = all_found a.setting.model a.clock f a.state at (v ∷ vs) all (allowance a.setting.limits) deep low; means = refl }
 
-    pub arguments_only : length values ≤ a.setting.limits.units → (r : Result (List Value) Trouble) (s : StateView) → GivesPart a f at (arguments at values) r s → (r ≡ Ok values) × (s ≡ a.state)
+    pub arguments_only : length values ≤ a.setting.limits.units → (r : Result (List Value) Trouble) (s : StateView)
+        → GivesPart a f at (arguments at values) r s → (r ≡ Ok values) × (s ≡ a.state)
     arguments_only paid r s = by values plain paid
       where
         by : (vs : List Value) → All IsConstant vs → length vs ≤ a.setting.limits.units → GivesPart a f at (arguments at vs) r s → (r ≡ Ok vs) × (s ≡ a.state)
@@ -224,7 +230,8 @@ module _ (a : Context) (f : ℕ) (at : Pos) (deep : 1 ≤ a.setting.limits.depth
         by (v ∷ vs) all many =
             record { outcome = listed.Spent; finds = all_spent a.setting.model a.clock f a.state at (v ∷ vs) all (allowance a.setting.limits) deep many; means = refl }
 
-    pub arguments_only_spent : a.setting.limits.units < length values → (r : Result (List Value) Trouble) (s : StateView) → GivesPart a f at (arguments at values) r s → r ≡ Err (Spent a.process at)
+    pub arguments_only_spent : a.setting.limits.units < length values → (r : Result (List Value) Trouble) (s : StateView)
+        → GivesPart a f at (arguments at values) r s → r ≡ Err (Spent a.process at)
     arguments_only_spent many r s = by values plain many
       where
         by : (vs : List Value) → All IsConstant vs → a.setting.limits.units < length vs → GivesPart a f at (arguments at vs) r s → r ≡ Err (Spent a.process at)

@@ -129,7 +129,8 @@ module _ (env : ℕ) where
     end_before _ _ _ _ of_env of_env (inl is) = absurd (omega (arith, is))
     end_before _ _ _ _ of_env of_env (inr is) = absurd (not_before p is.1)
 
-    pair_before : (w v : ℕ) (s t r u s' t' r' u' : End) → SameEnds p q s t → SameEnds p q r u → SameEnds p q s' t' → SameEnds p q r' u' → PairBefore w s r v s' r' → PairBefore w t u v t' u'
+    pair_before : (w v : ℕ) (s t r u s' t' r' u' : End) → SameEnds p q s t → SameEnds p q r u → SameEnds p q s' t' → SameEnds p q r' u'
+        → PairBefore w s r v s' r' → PairBefore w t u v t' u'
     pair_before w v s t r u s' t' r' u' a b c d (inl less) = inl less
     pair_before w v s t r u s' t' r' u' a b c d (inr (same, inl is)) =
         inr (same, inl (end_before s t s' t' a c is))
@@ -223,7 +224,8 @@ module _ (env : ℕ) where
       pub same : AllZip (SameActions p q) xs others
       pub whole : Whole Q others
 
-  pub whole_other : (p q : Place) (P Q : Action → Type 0) → ((a : Action) → P a → (b : Action) × SameActions p q a b × Q b) → ((b : Action) → Q b → (a : Action) × SameActions q p b a × P a)
+  pub whole_other : (p q : Place) (P Q : Action → Type 0) → ((a : Action) → P a → (b : Action) × SameActions p q a b × Q b)
+      → ((b : Action) → Q b → (a : Action) × SameActions q p b a × P a)
       → (xs : List Action) → Whole p q P xs → WholeOther p q Q xs
   whole_other p q P Q on back xs is =
       let c = carried p q P Q on xs is.each in

@@ -104,7 +104,8 @@ module _ (known : Known) (g : Driving) (n : ModelTree) (closes : Closes g n) (d 
         system.asked env_there seen 1 (leaf (exchange (port x) x x.entry.transfer)) (Spent env (at_line x)) at.part (asks_there seen closes.limits.units closes.limits.depth port Fits plain_lines x values at.fit sends more),
       )
 
-  part_trouble_back : (at : End) (a : Context) (f : ℕ) (k : Term) (t : Trouble) → PartAt (closed g n) c at a f k → Asks a f k t → (at.process < env) ⊎ (at.process ≡ env)
+  part_trouble_back : (at : End) (a : Context) (f : ℕ) (k : Term) (t : Trouble) → PartAt (closed g n) c at a f k → Asks a f k t
+      → (at.process < env) ⊎ (at.process ≡ env)
       → (other : Source) × SameSources env here [] (part at) other × DrivenTroubles g d other t
   part_trouble_back at a f k t there asks (inl low) = (
     part at,
@@ -119,7 +120,8 @@ module _ (known : Known) (g : Driving) (n : ModelTree) (closes : Closes g n) (d 
         subst (DrivenTroubles g d (part (environment_end g))) (sym h.trouble_is) (spent h.line h.rest h.values h.is h.sends h.more),
       )
 
-  pub trouble_back : (source : Source) (t : Trouble) → Troubles (closed g n) c source t → (other : Source) × SameSources env here [] source other × DrivenTroubles g d other t
+  pub trouble_back : (source : Source) (t : Trouble) → Troubles (closed g n) c source t
+      → (other : Source) × SameSources env here [] source other × DrivenTroubles g d other t
   trouble_back _ _ (system.asked at a f k t there asks) =
       part_trouble_back at a f k t there asks (mimics.which_part known g n closes d c m at a f k there)
   trouble_back _ _ (system.judged w s r message parcel t is says) =

@@ -34,7 +34,8 @@ pub record Becomes (port : Line → ℕ) (Fit : Line → Type 0) (doing : Doing)
 
 -- what a receive leaves of the environment
 pub data TakenOr (a : Context) (port : Line → ℕ) (Fit : Line → Type 0) (x : Line) (rest : List Line) (parcel : ParcelView) (result : Result Process Trouble) : Type 0 where
-  fits_in : length a.state.objects + length parcel.objects ≤ object_limit → Becomes port Fit (begins rest) (length a.state.objects + length parcel.objects) result → TakenOr a port Fit x rest parcel result
+  fits_in : length a.state.objects + length parcel.objects ≤ object_limit
+      → Becomes port Fit (begins rest) (length a.state.objects + length parcel.objects) result → TakenOr a port Fit x rest parcel result
   too_full : ¬ Fits a parcel → result ≡ fault StoreFull a.process (at_line x) → TakenOr a port Fit x rest parcel result
 
 module _ (a : Context) (enough : 1 ≤ a.setting.limits.units) (deep : 1 ≤ a.setting.limits.depth) (tall : 3 ≤ a.setting.limits.height) (port : Line → ℕ) (Fit : Line → Type 0) (plain : (x : Line) → Fit x → IsPlain x) where
@@ -47,7 +48,8 @@ module _ (a : Context) (enough : 1 ≤ a.setting.limits.units) (deep : 1 ≤ a.s
     pub at_it : at ≡ at_line line
     pub becomes : Becomes port Fit (offers line rest) (length a.state.objects) result
 
-  pub performs_only : (doing : Doing) (whole : Term) (place : Place) (g : ℕ) (part : Term) (at : Pos) (r result : Result Process Trouble) → PartIs port Fit doing whole place g part → Performs a g part at r
+  pub performs_only : (doing : Doing) (whole : Term) (place : Place) (g : ℕ) (part : Term) (at : Pos) (r result : Result Process Trouble)
+      → PartIs port Fit doing whole place g part → Performs a g part at r
       → result ≡ and_then r (settled a at whole place) → Expired doing at result
   performs_only _ _ _ _ _ at r result (around_it doing whole place g part around) is leaves =
       absurd (around_never_performs a g part at r around is)
@@ -93,7 +95,8 @@ module _ (a : Context) (enough : 1 ≤ a.setting.limits.units) (deep : 1 ≤ a.s
     pub parcel_is : parcel ≡ record { values = values; objects = [] }
     pub becomes : Becomes port Fit (begins rest) (length a.state.objects) result
 
-  pub hands_only : (doing : Doing) (whole : Term) (place : Place) (g : ℕ) (part : Term) (parcel : ParcelView) (at : Pos) (r result : Result Process Trouble) → PartIs port Fit doing whole place g part → Hands a g parcel part at r
+  pub hands_only : (doing : Doing) (whole : Term) (place : Place) (g : ℕ) (part : Term) (parcel : ParcelView) (at : Pos) (r result : Result Process Trouble)
+      → PartIs port Fit doing whole place g part → Hands a g parcel part at r
       → result ≡ and_then r (settled a at whole place) → Gave doing parcel result
   hands_only _ _ _ _ _ parcel at r result (around_it doing whole place g part around) is leaves =
       absurd (around_never_hands a g parcel part at r around is)
@@ -122,7 +125,8 @@ module _ (a : Context) (enough : 1 ≤ a.setting.limits.units) (deep : 1 ≤ a.s
         };
       }
 
-  pub hands_there : (x : Line) (values : List Value) (parcel : ParcelView) → Fit x → x.entry.transfer ≡ Send values → length values ≤ a.setting.limits.units → parcel ≡ record { values = values; objects = [] }
+  pub hands_there : (x : Line) (values : List Value) (parcel : ParcelView) → Fit x → x.entry.transfer ≡ Send values
+      → length values ≤ a.setting.limits.units → parcel ≡ record { values = values; objects = [] }
       → Hands a 1 parcel (leaf (exchange (port x) x x.entry.transfer)) (at_line x) (Ok (done_in a.state))
   hands_there x values parcel fit is low parcel_is =
       exchange_hands_there a deep 1 (port x) x parcel x.entry.transfer values is (subst (λ (q : Transfer). All IsConstant (values_in q)) is (plain x fit).values) low parcel_is
@@ -136,7 +140,8 @@ module _ (a : Context) (enough : 1 ≤ a.setting.limits.units) (deep : 1 ≤ a.s
     pub receives : line.entry.transfer ≡ Receive count
     pub taken : TakenOr a port Fit line rest parcel result
 
-  took : (x : Line) (rest : List Line) (at : Pos) (parcel : ParcelView) (r result : Result Process Trouble) → All Fit rest → TakenBy a x parcel r → result ≡ and_then r (settled a at (called (offering port x rest)) (place_of (offers x rest))) → TakenOr a port Fit x rest parcel result
+  took : (x : Line) (rest : List Line) (at : Pos) (parcel : ParcelView) (r result : Result Process Trouble) → All Fit rest → TakenBy a x parcel r
+      → result ≡ and_then r (settled a at (called (offering port x rest)) (place_of (offers x rest))) → TakenOr a port Fit x rest parcel result
   took x rest at parcel _ result fits (taken s room count) leaves =
       fits_in room (record {
         process = swept (left_by s (whole_then port rest));
@@ -146,7 +151,8 @@ module _ (a : Context) (enough : 1 ≤ a.setting.limits.units) (deep : 1 ≤ a.s
       })
   took x rest at parcel _ result fits (is_full unfit) leaves = too_full unfit leaves
 
-  pub takes_only : (doing : Doing) (whole : Term) (place : Place) (g : ℕ) (part : Term) (parcel : ParcelView) (at : Pos) (r result : Result Process Trouble) → PartIs port Fit doing whole place g part → Takes a g parcel part at r
+  pub takes_only : (doing : Doing) (whole : Term) (place : Place) (g : ℕ) (part : Term) (parcel : ParcelView) (at : Pos) (r result : Result Process Trouble)
+      → PartIs port Fit doing whole place g part → Takes a g parcel part at r
       → result ≡ and_then r (settled a at whole place) → Took doing parcel result
   takes_only _ _ _ _ _ parcel at r result (around_it doing whole place g part around) is leaves =
       absurd (around_never_takes a g parcel part at r around is)
@@ -165,5 +171,6 @@ module _ (a : Context) (enough : 1 ≤ a.setting.limits.units) (deep : 1 ≤ a.s
         taken = took x rest at parcel r result fits h.leaves leaves;
       }
 
-  pub takes_there : (x : Line) (count : ℕ) (parcel : ParcelView) → x.entry.transfer ≡ Receive count → (r : Result Process Trouble) × Takes a 1 parcel (leaf (exchange (port x) x x.entry.transfer)) (at_line x) r
+  pub takes_there : (x : Line) (count : ℕ) (parcel : ParcelView) → x.entry.transfer ≡ Receive count
+      → (r : Result Process Trouble) × Takes a 1 parcel (leaf (exchange (port x) x x.entry.transfer)) (at_line x) r
   takes_there x count parcel is = exchange_takes_there a 1 (port x) x parcel x.entry.transfer count is

@@ -65,7 +65,8 @@ module _ (known : Known) (g : Driving) (n : ModelTree) (closes : Closes g n) whe
       pub is : Next (closed g n) c b result
       pub same : SameNext known g n closes r result
 
-    alone_on : (a b : Action) (r : Result Config Trouble) → IsActionOf g.setting.model a → SameActions env [] here a b → Next g.setting d.system a r → NextOn b (and_then r (λ k. Ok (in_system d k)))
+    alone_on : (a b : Action) (r : Result Config Trouble) → IsActionOf g.setting.model a → SameActions env [] here a b → Next g.setting d.system a r
+        → NextOn b (and_then r (λ k. Ok (in_system d k)))
     alone_on a b r of_it same next =
         subst (λ (k : Action). NextOn k (and_then r (λ k. Ok (in_system d k)))) (itself a b same of_it)
         (record {
@@ -150,7 +151,8 @@ module _ (known : Known) (g : Driving) (n : ModelTree) (closes : Closes g n) whe
         known.parts_of g.setting d.system at a f t part
 
     -- a communication of the environment, seen from what it leads to
-    give_back : (w : ℕ) (r : End) (x : Line) (rest : List Line) (values : List Value) (result : Result Config Trouble) → Gives g d x rest values → r.process < env → Next (closed g n) c (Comm w env_there r x.entry.message (plain g values)) result
+    give_back : (w : ℕ) (r : End) (x : Line) (rest : List Line) (values : List Value) (result : Result Config Trouble) → Gives g d x rest values
+        → r.process < env → Next (closed g n) c (Comm w env_there r x.entry.message (plain g values)) result
         → NextBack (Comm w (environment_end g) r x.entry.message (plain g values)) result
     give_back w r x rest values _ gives low (system.communication _ _ _ _ _ sent taken hands takes) =
         record {
@@ -159,7 +161,8 @@ module _ (known : Known) (g : Driving) (n : ModelTree) (closes : Closes g n) whe
           same = outcomes.give_next known g n closes d c m r rest sent taken low (acting.gave known g n closes d c m env_there (plain g values) sent hands refl x rest gives.doing);
         }
 
-    get_back : (w : ℕ) (s : End) (x : Line) (rest : List Line) (count : ℕ) (parcel : ParcelView) (result : Result Config Trouble) → Gets g d x rest count → s.process < env → Next (closed g n) c (Comm w s env_there x.entry.message parcel) result
+    get_back : (w : ℕ) (s : End) (x : Line) (rest : List Line) (count : ℕ) (parcel : ParcelView) (result : Result Config Trouble)
+        → Gets g d x rest count → s.process < env → Next (closed g n) c (Comm w s env_there x.entry.message parcel) result
         → NextBack (Comm w s (environment_end g) x.entry.message parcel) result
     get_back w s x rest count parcel _ gets low (system.communication _ _ _ _ _ sent taken hands takes) =
         record {
@@ -168,7 +171,8 @@ module _ (known : Known) (g : Driving) (n : ModelTree) (closes : Closes g n) whe
           same = outcomes.get_next known g n closes d c m s x rest parcel sent taken low (acting.took known g n closes d c m env_there parcel taken takes refl x rest gets.doing);
         }
 
-    wait_back : (x : Line) (rest : List Line) (result : Result Config Trouble) → d.environment.doing ≡ waits 0 x rest → Next (closed g n) c (Internal env_there Expire (at_line x)) result
+    wait_back : (x : Line) (rest : List Line) (result : Result Config Trouble) → d.environment.doing ≡ waits 0 x rest
+        → Next (closed g n) c (Internal env_there Expire (at_line x)) result
         → NextBack (Internal (environment_end g) Expire (at_line x)) result
     wait_back x rest _ is (system.internal _ _ _ r does) =
         record {
@@ -177,7 +181,8 @@ module _ (known : Known) (g : Driving) (n : ModelTree) (closes : Closes g n) whe
           same = outcomes.wait_next known g n closes d c m x rest r (acting.expired known g n closes d c m env_there r does refl 0 x rest is);
         }
 
-    comm_back : (w : ℕ) (s t r u : End) (message : List ℕ) (parcel : ParcelView) (result : Result Config Trouble) → SameEnds env [] here s t → SameEnds env [] here r u → IsDrivenPair g d w s r message parcel
+    comm_back : (w : ℕ) (s t r u : End) (message : List ℕ) (parcel : ParcelView) (result : Result Config Trouble) → SameEnds env [] here s t
+        → SameEnds env [] here r u → IsDrivenPair g d w s r message parcel
         → Next (closed g n) c (Comm w t u message parcel) result → NextBack (Comm w s r message parcel) result
     comm_back w s t r u message parcel result same_sender same_receiver (of_processes _ _ _ _ _ is) next =
         let low = known.parts_of g.setting d.system s is.sends_at is.sends_frame is.sends_part is.sender_active in
@@ -196,7 +201,8 @@ module _ (known : Known) (g : Driving) (n : ModelTree) (closes : Closes g n) whe
         (subst (λ (k : End). Next (closed g n) c (Comm w s k x.entry.message parcel) result) (of_high u same_receiver)
         (subst (λ (k : End). Next (closed g n) c (Comm w k u x.entry.message parcel) result) (of_low s t same_sender low) next))
 
-    pub next_back : (a b : Action) (result : Result Config Trouble) → SameActions env [] here a b → DrivenOffers g d a → Next (closed g n) c b result → NextBack a result
+    pub next_back : (a b : Action) (result : Result Config Trouble) → SameActions env [] here a b → DrivenOffers g d a → Next (closed g n) c b result
+        → NextBack a result
     next_back _ _ result (internal _ f _ _ same) (acts at kind pos is) next =
         let low = internal_low at kind pos is in
         alone_back (Internal at kind pos) result low (subst (λ (k : End). Next (closed g n) c (Internal k kind pos) result) (of_low at f same low) next)

@@ -62,7 +62,8 @@ module _ (known : Known) (g : Driving) (n : ModelTree) (closes : Closes g n) (d 
 
   -- Verdicts
 
-  env_receives : (w : ℕ) (s r : End) (message : List ℕ) (parcel : ParcelView) → IsDrivenPair g d w s r message parcel → r ≡ environment_end g → IsJudged (closed g n) c env_there parcel (Ok true)
+  env_receives : (w : ℕ) (s r : End) (message : List ℕ) (parcel : ParcelView) → IsDrivenPair g d w s r message parcel → r ≡ environment_end g
+      → IsJudged (closed g n) c env_there parcel (Ok true)
   env_receives w s r message parcel (of_processes _ _ _ _ _ is) same =
       let less = paired.low_of known g n closes d c m r is.receives_at is.receives_frame is.receives_part is.receiver_active in
       let at : r.process ≡ env = ap (λ (e : End). e.process) same in
@@ -80,7 +81,8 @@ module _ (known : Known) (g : Driving) (n : ModelTree) (closes : Closes g n) (d 
         judges = judges_there seen closes.limits.units closes.limits.depth port Fits (fit_plain known g n closes) x (length parcel.values) parcel gets.receives;
       }
 
-  pub judged_on : (w : ℕ) (s r u : End) (message : List ℕ) (parcel : ParcelView) (verdict : Result Bool Trouble) → IsDrivenPair g d w s r message parcel → Ends r u → IsDrivenJudged g d r parcel verdict → IsJudged (closed g n) c u parcel verdict
+  pub judged_on : (w : ℕ) (s r u : End) (message : List ℕ) (parcel : ParcelView) (verdict : Result Bool Trouble)
+      → IsDrivenPair g d w s r message parcel → Ends r u → IsDrivenJudged g d r parcel verdict → IsJudged (closed g n) c u parcel verdict
   judged_on w s r u message parcel verdict pair same (by_process _ _ _ is) =
       let low = paired.low_of known g n closes d c m r is.seen is.frame is.part is.active in
       subst (λ (e : End). IsJudged (closed g n) c e parcel verdict) (matching.one_end env [] here r r r u (of_system r low) same refl)
@@ -89,7 +91,8 @@ module _ (known : Known) (g : Driving) (n : ModelTree) (closes : Closes g n) (d 
       subst (λ (e : End). IsJudged (closed g n) c e parcel (Ok true)) (matching.one_end env [] here (environment_end g) env_there (environment_end g) u of_env same refl)
       (env_receives w s (environment_end g) message parcel pair refl)
 
-  pub judged_back : (r u : End) (parcel : ParcelView) (verdict : Result Bool Trouble) → Ends r u → IsJudged (closed g n) c u parcel verdict → IsDrivenJudged g d r parcel verdict
+  pub judged_back : (r u : End) (parcel : ParcelView) (verdict : Result Bool Trouble) → Ends r u → IsJudged (closed g n) c u parcel verdict
+      → IsDrivenJudged g d r parcel verdict
   judged_back _ _ parcel verdict (of_system r low) is =
       by_process r parcel verdict ((known.verdicts n g.setting d.system c m.more closes.rules m.both r parcel verdict low).1 is)
   judged_back _ _ parcel verdict of_env is =

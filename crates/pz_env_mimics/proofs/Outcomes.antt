@@ -63,7 +63,8 @@ module _ (known : Known) (g : Driving) (n : ModelTree) (closes : Closes g n) whe
     Turns = Becomes port Fits_line
 
     -- of an action of the system
-    pub system_next : (r : Result Config Trouble) → ((k : Config) → r ≡ Ok k → IsWhole g.setting k) → SameNext (and_then r (λ k. Ok (in_system d k))) (result_behind r m.more)
+    pub system_next : (r : Result Config Trouble) → ((k : Config) → r ≡ Ok k → IsWhole g.setting k)
+        → SameNext (and_then r (λ k. Ok (in_system d k))) (result_behind r m.more)
     system_next (Ok k) is_whole =
         goes (in_system d k) (behind k m.more) (record { more = m.more; both = record { whole = is_whole k refl; clock = refl; processes = refl }; does = m.does; has = m.has })
     system_next (Err t) is_whole = fails t
@@ -73,7 +74,8 @@ module _ (known : Known) (g : Driving) (n : ModelTree) (closes : Closes g n) whe
         (known.stays_whole g.setting d.system k a 0 m.both.whole).0 (subst (Next g.setting d.system a) e next)
 
     -- of the end of a wait
-    pub wait_next : (x : Line) (rest : List Line) (r : Result Process Trouble) → Turns (offers x rest) (length m.more.state.objects) r → SameNext (Ok (doing_next d (offers x rest))) (and_then r (λ p. Ok (with_process c env p)))
+    pub wait_next : (x : Line) (rest : List Line) (r : Result Process Trouble) → Turns (offers x rest) (length m.more.state.objects) r
+        → SameNext (Ok (doing_next d (offers x rest))) (and_then r (λ p. Ok (with_process c env p)))
     wait_next x rest r is =
         subst (SameNext (Ok (doing_next d (offers x rest)))) (ap (λ (q : Result Process Trouble). and_then q (λ p. Ok (with_process c env p))) (sym is.is))
         (goes (doing_next d (offers x rest)) (with_process c env is.process) (record {
@@ -84,7 +86,8 @@ module _ (known : Known) (g : Driving) (n : ModelTree) (closes : Closes g n) whe
         }))
 
     -- of a send of the environment
-    pub give_next : (r : End) (rest : List Line) (sent taken : Result Process Trouble) → r.process < env → Turns (begins rest) (length m.more.state.objects) sent
+    pub give_next : (r : End) (rest : List Line) (sent taken : Result Process Trouble) → r.process < env
+        → Turns (begins rest) (length m.more.state.objects) sent
         → SameNext (and_then taken (λ q. Ok (both_next d r.process q (record { doing = begins rest; objects = d.environment.objects }))))
         (and_then sent (λ p. and_then taken (λ q. Ok (with_both c env_there r p q))))
     give_next r rest sent taken low is =
@@ -92,7 +95,8 @@ module _ (known : Known) (g : Driving) (n : ModelTree) (closes : Closes g n) whe
         (sym is.is)
         (by taken)
       where
-        by : (t : Result Process Trouble) → SameNext (and_then t (λ q. Ok (both_next d r.process q (record { doing = begins rest; objects = d.environment.objects })))) (and_then t (λ q. Ok (with_both c env_there r is.process q)))
+        by : (t : Result Process Trouble)
+            → SameNext (and_then t (λ q. Ok (both_next d r.process q (record { doing = begins rest; objects = d.environment.objects })))) (and_then t (λ q. Ok (with_both c env_there r is.process q)))
         by (Ok q) =
             let one = known.more_becomes g.setting d.system c m.more is.process m.both in
             goes (both_next d r.process q (record { doing = begins rest; objects = d.environment.objects })) (with_both c env_there r is.process q) (record {
@@ -104,7 +108,8 @@ module _ (known : Known) (g : Driving) (n : ModelTree) (closes : Closes g n) whe
         by (Err t) = fails t
 
     -- of a receive of the environment
-    pub get_next : (s : End) (x : Line) (rest : List Line) (parcel : ParcelView) (sent taken : Result Process Trouble) → s.process < env → TakenOr seen port Fits_line x rest parcel taken
+    pub get_next : (s : End) (x : Line) (rest : List Line) (parcel : ParcelView) (sent taken : Result Process Trouble) → s.process < env
+        → TakenOr seen port Fits_line x rest parcel taken
         → SameNext (and_then sent (λ p. and_then (stored g d x parcel) (λ k. Ok (both_next d s.process p (record { doing = begins rest; objects = k })))))
         (and_then sent (λ p. and_then taken (λ q. Ok (with_both c s env_there p q))))
     get_next s x rest parcel (Err t) taken low is = fails t
@@ -132,5 +137,6 @@ module _ (known : Known) (g : Driving) (n : ModelTree) (closes : Closes g n) whe
         subst (λ (k : Result ℕ Trouble). SameNext (and_then k (λ k. Ok (both_next d s.process p (record { doing = begins rest; objects = k })))) (and_then taken (λ q. Ok (with_both c s env_there p q)))) (sym is_stored)
         (subst (λ (t : Result Process Trouble). SameNext (fault StoreFull env (at_line x)) (and_then t (λ q. Ok (with_both c s env_there p q)))) (sym is) (fails (Fault StoreFull env (at_line x))))
       where
-        too_many : d.environment.objects + length parcel.objects ≡ length m.more.state.objects + length parcel.objects → ¬ Fits seen parcel → d.environment.objects + length parcel.objects ≤ object_limit → ⊥
+        too_many : d.environment.objects + length parcel.objects ≡ length m.more.state.objects + length parcel.objects → ¬ Fits seen parcel
+            → d.environment.objects + length parcel.objects ≤ object_limit → ⊥
         too_many count unfit fits = unfit (omega (arith, count, fits))

@@ -59,7 +59,8 @@ module _ (known : Known) (g : Driving) (n : ModelTree) (closes : Closes g n) (d 
   part_on : (at : End) (a : Context) (f : ℕ) (t : Term) → PartAt g.setting d.system at a f t → PartAt (closed g n) c at (seen_in n a) f t
   part_on at a f t is = (known.parts_stand n g.setting d.system c m.more closes.rules m.both at f t).0 a is
 
-  part_back : (at : End) (a : Context) (f : ℕ) (t : Term) → at.process < env → PartAt (closed g n) c at a f t → PartAt g.setting d.system at (seen_in g.setting.model a) f t
+  part_back : (at : End) (a : Context) (f : ℕ) (t : Term) → at.process < env → PartAt (closed g n) c at a f t
+      → PartAt g.setting d.system at (seen_in g.setting.model a) f t
   part_back at a f t low is =
       (known.parts_stand n g.setting d.system c m.more closes.rules m.both at f t).1 a low is
 
@@ -73,11 +74,13 @@ module _ (known : Known) (g : Driving) (n : ModelTree) (closes : Closes g n) (d 
   setting_of : (at : End) (a : Context) (f : ℕ) (t : Term) → PartAt (closed g n) c at a f t → a.setting ≡ closed g n
   setting_of at a f t is = ap (λ (b : Context). b.setting) is.stands.seen
 
-  sends_on : (at : End) (a : Context) (f : ℕ) (t : Term) (pos : Pos) (number : ℕ) (message : List ℕ) (parcel : ParcelView) → PartAt g.setting d.system at a f t → Sends a f t pos number message parcel → Sends (seen_in n a) f t pos number message parcel
+  sends_on : (at : End) (a : Context) (f : ℕ) (t : Term) (pos : Pos) (number : ℕ) (message : List ℕ) (parcel : ParcelView)
+      → PartAt g.setting d.system at a f t → Sends a f t pos number message parcel → Sends (seen_in n a) f t pos number message parcel
   sends_on at a f t pos number message parcel is =
       (known.sends n a f t pos number message parcel (known.sees n g.setting d.system at.process is.process a closes.rules is.stands)).0
 
-  sends_back : (at : End) (a : Context) (f : ℕ) (t : Term) (pos : Pos) (number : ℕ) (message : List ℕ) (parcel : ParcelView) → at.process < env → PartAt (closed g n) c at a f t → Sends a f t pos number message parcel
+  sends_back : (at : End) (a : Context) (f : ℕ) (t : Term) (pos : Pos) (number : ℕ) (message : List ℕ) (parcel : ParcelView) → at.process < env
+      → PartAt (closed g n) c at a f t → Sends a f t pos number message parcel
       → Sends (seen_in g.setting.model a) f t pos number message parcel
   sends_back at a f t pos number message parcel low is says =
       let old = part_back at a f t low is in
@@ -198,7 +201,8 @@ module _ (known : Known) (g : Driving) (n : ModelTree) (closes : Closes g n) (d 
     pub is : IsDrivenPair g d w sender receiver message parcel
 
   -- the sender is the environment
-  from_env : (w : ℕ) (s r : End) (message : List ℕ) (parcel : ParcelView) → IsPair (closed g n) c w s r message parcel → s.process ≡ env → r.process < env → PairBack w s r message parcel
+  from_env : (w : ℕ) (s r : End) (message : List ℕ) (parcel : ParcelView) → IsPair (closed g n) c w s r message parcel → s.process ≡ env
+      → r.process < env → PairBack w s r message parcel
   from_env w s r message parcel is at less =
       let e = mimics.env_part known g n closes d c m s is.sends_at is.sends_frame is.sends_part is.sender_active at in
       let says : Sends seen is.sends_frame is.sends_part is.sends_pos is.sends_port message parcel =
@@ -231,7 +235,8 @@ module _ (known : Known) (g : Driving) (n : ModelTree) (closes : Closes g n) (d 
       }
 
   -- the receiver is
-  into_env : (w : ℕ) (s r : End) (message : List ℕ) (parcel : ParcelView) → IsPair (closed g n) c w s r message parcel → s.process < env → r.process ≡ env → PairBack w s r message parcel
+  into_env : (w : ℕ) (s r : End) (message : List ℕ) (parcel : ParcelView) → IsPair (closed g n) c w s r message parcel → s.process < env
+      → r.process ≡ env → PairBack w s r message parcel
   into_env w s r message parcel is low at =
       let e = mimics.env_part known g n closes d c m r is.receives_at is.receives_frame is.receives_part is.receiver_active at in
       let h = receives_only seen limits_units limits_depth port Fits plain_lines d.environment.doing m.more.term r.place is.receives_frame is.receives_part is.receives_pos is.receives_port message (length parcel.values) e.is is.receives in

@@ -111,7 +111,8 @@ slots_of : (count : ℕ) (x : Slot) → variables_of (unless_none (replicate cou
 slots_of zero x = refl
 slots_of (suc n) x = refl
 
-pub bound_objects : (f count : ℕ) (parcel : ParcelView) (s : StateView) → length (binding.bound f (variables_of (unless_none (replicate count (Shared 0)))) parcel s).objects ≡ length s.objects + length parcel.objects
+pub bound_objects : (f count : ℕ) (parcel : ParcelView) (s : StateView)
+    → length (binding.bound f (variables_of (unless_none (replicate count (Shared 0)))) parcel s).objects ≡ length s.objects + length parcel.objects
 bound_objects f count parcel s =
     ap (λ (xs : List Slot). length (set_slots f xs (unpacked_values s parcel) (unpacked s parcel)).objects) (slots_of count (Shared 0))
     ∙ ap (λ (os : List ObjectView). length os) (into_one f count (unpacked_values s parcel) (unpacked s parcel))

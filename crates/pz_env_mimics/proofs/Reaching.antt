@@ -38,7 +38,8 @@ module _ (known : Known) (g : Driving) (n : ModelTree) (closes : Closes g n) whe
     pub same : SameEvents g events told
     pub both : Both end last
 
-  pub reach_on : (d : Driven) (events : List Event) (end : Driven) (standing : Standing) → DrivenReaches g d events end standing → (c : Config) → Both d c → ReachOn c events end standing
+  pub reach_on : (d : Driven) (events : List Event) (end : Driven) (standing : Standing) → DrivenReaches g d events end standing → (c : Config)
+      → Both d c → ReachOn c events end standing
   reach_on _ _ _ _ (driven_runs.here d) c m = record { told = []; last = c; is = runs.here c; same = tt; both = m }
   reach_on _ _ _ _ (driven_runs.acts d next end count k a events standing moment choice step more) c m =
       let b = choice_on known g n closes d c m count k a choice in
@@ -81,7 +82,8 @@ module _ (known : Known) (g : Driving) (n : ModelTree) (closes : Closes g n) whe
     pub same : SameEvents g events told
     pub both : Both end last
 
-  pub reach_back : (c : Config) (told : List Event) (last : Config) (standing : Standing) → Reaches (closed g n) c told last standing → (d : Driven) → Both d c → ReachBack d told last standing
+  pub reach_back : (c : Config) (told : List Event) (last : Config) (standing : Standing) → Reaches (closed g n) c told last standing → (d : Driven)
+      → Both d c → ReachBack d told last standing
   reach_back _ _ _ _ (runs.here c) d m = record { events = []; end = d; is = driven_runs.here d; same = tt; both = m }
   reach_back _ _ _ _ (runs.acts c next last count k b told standing moment choice step more) d m =
       let a = choice_back known g n closes d c m count k b choice in

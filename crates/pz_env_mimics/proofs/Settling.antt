@@ -18,7 +18,8 @@ use Rattle.pz_env_mimics.proofs.Environment.{not_begun, behind, offering, called
 
 -- Openings
 
-opens_exchange : (into : Step → StateView → Process) (p : ℕ) (x : Line) (transfer : Transfer) (s : StateView) → step_opened into (exchange p x transfer) s ≡ left_by s (leaf (exchange p x transfer))
+opens_exchange : (into : Step → StateView → Process) (p : ℕ) (x : Line) (transfer : Transfer) (s : StateView)
+    → step_opened into (exchange p x transfer) s ≡ left_by s (leaf (exchange p x transfer))
 opens_exchange into p x (Send values) s = refl
 opens_exchange into p x (Receive count) s = refl
 
@@ -33,18 +34,21 @@ module _ (port : Line → ℕ) where
   whole_then [] = done
   whole_then (y ∷ ys) = called (sequence (leaf (waiting y)) (behind port y ys))
 
-  framed_now : (h : Home) (u : Term) (x : Line) (rest : List Line) (s : StateView) → around h 0 s (called u) 0 (offering port x rest) ≡ left_by s (called (offering port x rest))
+  framed_now : (h : Home) (u : Term) (x : Line) (rest : List Line) (s : StateView)
+      → around h 0 s (called u) 0 (offering port x rest) ≡ left_by s (called (offering port x rest))
   framed_now h u x [] s = refl
   framed_now h u x (y ∷ ys) s = refl
 
   -- the wait is over
-  residual_wait : (h : Home) (t : Term) (x : Line) (rest : List Line) (s : StateView) → residual h 0 (called (sequence t (behind port x rest))) (0 ∷ 0 ∷ []) (done_in s) ≡ left_by s (called (offering port x rest))
+  residual_wait : (h : Home) (t : Term) (x : Line) (rest : List Line) (s : StateView)
+      → residual h 0 (called (sequence t (behind port x rest))) (0 ∷ 0 ∷ []) (done_in s) ≡ left_by s (called (offering port x rest))
   residual_wait h t x rest s =
       ap (λ (p : Process). around h 0 p.state (called (sequence t (behind port x rest))) 0 p.term) (offered_now h x rest s)
       ∙ framed_now h (sequence t (behind port x rest)) x rest s
 
   -- the communication is done
-  residual_exchange : (h : Home) (x : Line) (rest : List Line) (s : StateView) → residual h 0 (called (offering port x rest)) (place_of (offers x rest)) (done_in s) ≡ left_by s (whole_then rest)
+  residual_exchange : (h : Home) (x : Line) (rest : List Line) (s : StateView)
+      → residual h 0 (called (offering port x rest)) (place_of (offers x rest)) (done_in s) ≡ left_by s (whole_then rest)
   residual_exchange h x [] s = refl
   residual_exchange h x (y ∷ ys) s = refl
 
@@ -62,11 +66,13 @@ module _ (port : Line → ℕ) where
         ap (λ (r : Process). not_too_high a at (swept r)) is
         ∙ ap (λ (b : Bool). if b then Ok (swept q) else Err (High a.process at)) (le-leb (height q.term) a.setting.limits.height (omega (arith, low, tall)))
 
-    pub settled_wait : (t : Term) (x : Line) (rest : List Line) (s : StateView) → settled a at (called (sequence t (behind port x rest))) (0 ∷ 0 ∷ []) (done_in s) ≡ Ok (swept (left_by s (called (offering port x rest))))
+    pub settled_wait : (t : Term) (x : Line) (rest : List Line) (s : StateView)
+        → settled a at (called (sequence t (behind port x rest))) (0 ∷ 0 ∷ []) (done_in s) ≡ Ok (swept (left_by s (called (offering port x rest))))
     settled_wait t x rest s =
         settles (residual (home_of a) 0 (called (sequence t (behind port x rest))) (0 ∷ 0 ∷ []) (done_in s)) (left_by s (called (offering port x rest))) (residual_wait (home_of a) t x rest s) (height_offering x rest)
 
-    pub settled_exchange : (x : Line) (rest : List Line) (s : StateView) → settled a at (called (offering port x rest)) (place_of (offers x rest)) (done_in s) ≡ Ok (swept (left_by s (whole_then rest)))
+    pub settled_exchange : (x : Line) (rest : List Line) (s : StateView)
+        → settled a at (called (offering port x rest)) (place_of (offers x rest)) (done_in s) ≡ Ok (swept (left_by s (whole_then rest)))
     settled_exchange x rest s =
         settles (residual (home_of a) 0 (called (offering port x rest)) (place_of (offers x rest)) (done_in s)) (left_by s (whole_then rest)) (residual_exchange (home_of a) x rest s) (height_then rest)
 

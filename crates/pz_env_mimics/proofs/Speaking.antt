@@ -52,13 +52,15 @@ around_cannot a g _ _ _ is (actions.elapses at e zero) = is
 around_cannot a g _ _ _ is (actions.expires at) = is
 around_cannot a g _ _ _ is (actions.calls at method args results) = is
 
-pub around_never_sends : (a : Context) (g : ℕ) (part : Term) (at : Pos) (port : ℕ) (message : List ℕ) (parcel : ParcelView) → IsAround part → Sends a g part at port message parcel → ⊥
+pub around_never_sends : (a : Context) (g : ℕ) (part : Term) (at : Pos) (port : ℕ) (message : List ℕ) (parcel : ParcelView) → IsAround part
+    → Sends a g part at port message parcel → ⊥
 around_never_sends a g _ _ _ _ _ is (messages.sends at port name args block values s parcel gives packed) = is
 
 pub around_never_receives : (part : Term) (at : Pos) (port : ℕ) (message : List ℕ) (count : ℕ) → IsAround part → Receives part at port message count → ⊥
 around_never_receives _ _ _ _ _ is (messages.receives at port name into condition block) = is
 
-pub around_never_judges : (a : Context) (g : ℕ) (parcel : ParcelView) (part : Term) (verdict : Result Bool Trouble) → IsAround part → Judges a g parcel part verdict → ⊥
+pub around_never_judges : (a : Context) (g : ℕ) (parcel : ParcelView) (part : Term) (verdict : Result Bool Trouble) → IsAround part
+    → Judges a g parcel part verdict → ⊥
 around_never_judges a g parcel _ _ is (messages.free at port name into block) = is
 around_never_judges a g parcel _ _ is (messages.asks at port name into condition block r fits tests) = is
 around_never_judges a g parcel _ _ is (messages.unfit at port name into condition block unfit) = is
@@ -98,13 +100,15 @@ module _ (a : Context) (enough : 1 ≤ a.setting.limits.units) (deep : 1 ≤ a.s
   plain_number f x plain =
       subst (λ (n : ℤ). Lasts a f (at_line x) (expression.literal (at_line x) (literal.Int n)) (Ok (wait_of x.entry))) (sym plain.wait) (number_lasts a f (at_line x) deep enough (wait_of x.entry))
 
-  pub plain_number_only : (f : ℕ) (x : Line) → IsPlain x → (r : Result ℕ Trouble) → Lasts a f (at_line x) (expression.literal (at_line x) (literal.Int x.entry.wait)) r → r ≡ Ok (wait_of x.entry)
+  pub plain_number_only : (f : ℕ) (x : Line) → IsPlain x → (r : Result ℕ Trouble)
+      → Lasts a f (at_line x) (expression.literal (at_line x) (literal.Int x.entry.wait)) r → r ≡ Ok (wait_of x.entry)
   plain_number_only f x plain r is =
       number_only a f (at_line x) deep enough (wait_of x.entry) r (subst (λ (n : ℤ). Lasts a f (at_line x) (expression.literal (at_line x) (literal.Int n)) r) plain.wait is)
 
   -- Waiting
 
-  pub waiting_can : (g : ℕ) (x : Line) (left : ℕ) (t : Term) (kind : Kind) (at : Pos) → IsPlain x → IsWaiting x left t → Can a g t kind at → (left ≡ 0) × (kind ≡ Expire) × (at ≡ at_line x)
+  pub waiting_can : (g : ℕ) (x : Line) (left : ℕ) (t : Term) (kind : Kind) (at : Pos) → IsPlain x → IsWaiting x left t → Can a g t kind at
+      → (left ≡ 0) × (kind ≡ Expire) × (at ≡ at_line x)
   waiting_can g x _ _ _ _ plain not_begun (actions.elapses at e lasts) =
       (sym (ok_same 0 (wait_of x.entry) (plain_number_only g x plain (Ok 0) lasts)), refl, refl)
   waiting_can g x _ _ _ _ plain (begun left) (actions.expires at) = (refl, refl, refl)
@@ -115,15 +119,18 @@ module _ (a : Context) (enough : 1 ≤ a.setting.limits.units) (deep : 1 ≤ a.s
   waiting_acts g x _ _ plain (begun left) is =
       subst (λ (n : ℕ). Can a g (wait n (at_line x)) Expire (at_line x)) (sym is) (actions.expires (at_line x))
 
-  pub waiting_never_sends : (g : ℕ) (x : Line) (left : ℕ) (t : Term) (at : Pos) (port : ℕ) (message : List ℕ) (parcel : ParcelView) → IsWaiting x left t → Sends a g t at port message parcel → ⊥
+  pub waiting_never_sends : (g : ℕ) (x : Line) (left : ℕ) (t : Term) (at : Pos) (port : ℕ) (message : List ℕ) (parcel : ParcelView)
+      → IsWaiting x left t → Sends a g t at port message parcel → ⊥
   waiting_never_sends g x _ _ at port message parcel not_begun is = elim is [ ]
   waiting_never_sends g x _ _ at port message parcel (begun left) is = elim is [ ]
 
-  pub waiting_never_receives : (x : Line) (left : ℕ) (t : Term) (at : Pos) (port : ℕ) (message : List ℕ) (count : ℕ) → IsWaiting x left t → Receives t at port message count → ⊥
+  pub waiting_never_receives : (x : Line) (left : ℕ) (t : Term) (at : Pos) (port : ℕ) (message : List ℕ) (count : ℕ) → IsWaiting x left t
+      → Receives t at port message count → ⊥
   waiting_never_receives x _ _ at port message count not_begun is = elim is [ ]
   waiting_never_receives x _ _ at port message count (begun left) is = elim is [ ]
 
-  pub waiting_never_judges : (g : ℕ) (x : Line) (left : ℕ) (parcel : ParcelView) (t : Term) (verdict : Result Bool Trouble) → IsWaiting x left t → Judges a g parcel t verdict → ⊥
+  pub waiting_never_judges : (g : ℕ) (x : Line) (left : ℕ) (parcel : ParcelView) (t : Term) (verdict : Result Bool Trouble) → IsWaiting x left t
+      → Judges a g parcel t verdict → ⊥
   waiting_never_judges g x _ parcel _ verdict not_begun is = elim is [ ]
   waiting_never_judges g x _ parcel _ verdict (begun left) is = elim is [ ]
 
@@ -161,7 +168,9 @@ module _ (a : Context) (enough : 1 ≤ a.setting.limits.units) (deep : 1 ≤ a.s
     pub name : message ≡ x.entry.message
     pub parcel_is : parcel ≡ record { values = values; objects = [] }
 
-  pub exchange_says : (g p : ℕ) (x : Line) (transfer : Transfer) (at : Pos) (port : ℕ) (message : List ℕ) (parcel : ParcelView) → All IsConstant (values_in transfer) → Sends a g (leaf (exchange p x transfer)) at port message parcel → Said p x transfer at port message parcel
+  pub exchange_says : (g p : ℕ) (x : Line) (transfer : Transfer) (at : Pos) (port : ℕ) (message : List ℕ) (parcel : ParcelView)
+      → All IsConstant (values_in transfer) → Sends a g (leaf (exchange p x transfer)) at port message parcel
+      → Said p x transfer at port message parcel
   exchange_says g p x (Receive count) at port message parcel plain is = elim is [ ]
   exchange_says g p x (Send values) _ _ _ _ plain (messages.sends at port name args block found s parcel gives packed) =
       by (cases_lt a.setting.limits.units (length values))
@@ -181,7 +190,9 @@ module _ (a : Context) (enough : 1 ≤ a.setting.limits.units) (deep : 1 ≤ a.s
             parcel_is = only_plain_parcel s values plain parcel (subst (λ (vs : List Value). IsParcelOf s vs parcel) same packed);
           }
 
-  pub exchange_sends : (g p : ℕ) (x : Line) (transfer : Transfer) (values : List Value) → transfer ≡ Send values → All IsConstant values → length values ≤ a.setting.limits.units → Sends a g (leaf (exchange p x transfer)) (at_line x) p x.entry.message (record { values = values; objects = [] })
+  pub exchange_sends : (g p : ℕ) (x : Line) (transfer : Transfer) (values : List Value) → transfer ≡ Send values → All IsConstant values
+      → length values ≤ a.setting.limits.units
+      → Sends a g (leaf (exchange p x transfer)) (at_line x) p x.entry.message (record { values = values; objects = [] })
   exchange_sends g p x transfer values is plain low =
       subst (λ (r : Transfer). Sends a g (leaf (exchange p x r)) (at_line x) p x.entry.message (record { values = values; objects = [] })) (sym is)
       (messages.sends (at_line x) p (named_at x x.entry.message) (arguments (at_line x) values) expression.left_out values a.state (record { values = values; objects = [] }) (arguments_given a g (at_line x) deep values plain low) (plain_parcel a.state values plain))
@@ -192,22 +203,26 @@ module _ (a : Context) (enough : 1 ≤ a.setting.limits.units) (deep : 1 ≤ a.s
     pub over_it : port ≡ p
     pub name : message ≡ x.entry.message
 
-  pub exchange_hears : (p : ℕ) (x : Line) (transfer : Transfer) (at : Pos) (port : ℕ) (message : List ℕ) (count : ℕ) → Receives (leaf (exchange p x transfer)) at port message count → Heard p x transfer at port message count
+  pub exchange_hears : (p : ℕ) (x : Line) (transfer : Transfer) (at : Pos) (port : ℕ) (message : List ℕ) (count : ℕ)
+      → Receives (leaf (exchange p x transfer)) at port message count → Heard p x transfer at port message count
   exchange_hears p x (Send values) at port message count is = elim is [ ]
   exchange_hears p x (Receive count) _ _ _ _ (messages.receives at port name into condition block) =
       record { receives = ap Receive (sym (count_of count (Shared 0))); at_it = refl; over_it = refl; name = refl }
 
-  pub exchange_receives : (p : ℕ) (x : Line) (transfer : Transfer) (count : ℕ) → transfer ≡ Receive count → Receives (leaf (exchange p x transfer)) (at_line x) p x.entry.message count
+  pub exchange_receives : (p : ℕ) (x : Line) (transfer : Transfer) (count : ℕ) → transfer ≡ Receive count
+      → Receives (leaf (exchange p x transfer)) (at_line x) p x.entry.message count
   exchange_receives p x transfer count is =
       subst (λ (r : Transfer). Receives (leaf (exchange p x r)) (at_line x) p x.entry.message count) (sym is)
       (subst (λ (n : ℕ). Receives (leaf (exchange p x (Receive count))) (at_line x) p x.entry.message n) (count_of count (Shared 0))
       (messages.receives (at_line x) p (named_at x x.entry.message) (unless_none (replicate count (Shared 0))) None expression.left_out))
 
-  pub exchange_judged : (g p : ℕ) (x : Line) (transfer : Transfer) (parcel : ParcelView) (verdict : Result Bool Trouble) → Judges a g parcel (leaf (exchange p x transfer)) verdict → verdict ≡ Ok true
+  pub exchange_judged : (g p : ℕ) (x : Line) (transfer : Transfer) (parcel : ParcelView) (verdict : Result Bool Trouble)
+      → Judges a g parcel (leaf (exchange p x transfer)) verdict → verdict ≡ Ok true
   exchange_judged g p x (Send values) parcel verdict is = elim is [ ]
   exchange_judged g p x (Receive count) parcel _ (messages.free at port name into block) = refl
 
-  pub exchange_judges : (g p : ℕ) (x : Line) (transfer : Transfer) (count : ℕ) (parcel : ParcelView) → transfer ≡ Receive count → Judges a g parcel (leaf (exchange p x transfer)) (Ok true)
+  pub exchange_judges : (g p : ℕ) (x : Line) (transfer : Transfer) (count : ℕ) (parcel : ParcelView) → transfer ≡ Receive count
+      → Judges a g parcel (leaf (exchange p x transfer)) (Ok true)
   exchange_judges g p x transfer count parcel is =
       subst (λ (r : Transfer). Judges a g parcel (leaf (exchange p x r)) (Ok true)) (sym is)
       (messages.free (at_line x) p (named_at x x.entry.message) (unless_none (replicate count (Shared 0))) expression.left_out)
@@ -221,7 +236,8 @@ module _ (a : Context) (enough : 1 ≤ a.setting.limits.units) (deep : 1 ≤ a.s
   err_same : {A : Type 0} (t u : Trouble) → (let r : Result A Trouble = Err t in r ≡ Err u) → t ≡ u
   err_same t u e = cc
 
-  pub exchange_lacks : (g p : ℕ) (x : Line) (transfer : Transfer) (trouble : Trouble) → All IsConstant (values_in transfer) → Asks a g (leaf (exchange p x transfer)) trouble → Lacks x transfer trouble
+  pub exchange_lacks : (g p : ℕ) (x : Line) (transfer : Transfer) (trouble : Trouble) → All IsConstant (values_in transfer)
+      → Asks a g (leaf (exchange p x transfer)) trouble → Lacks x transfer trouble
   exchange_lacks g p x (Receive count) trouble plain is = elim is [ ]
   exchange_lacks g p x (Send values) _ plain (asking.arguments at port name args block trouble s gives) =
       by (cases_lt a.setting.limits.units (length values))
@@ -236,7 +252,8 @@ module _ (a : Context) (enough : 1 ≤ a.setting.limits.units) (deep : 1 ≤ a.s
           }
       by (inr low) = absurd (ok_apart values trouble (sym (arguments_only a g (at_line x) deep values plain low (Err trouble) s gives).0))
 
-  pub exchange_asks : (g p : ℕ) (x : Line) (transfer : Transfer) (values : List Value) → transfer ≡ Send values → All IsConstant values → a.setting.limits.units < length values → Asks a g (leaf (exchange p x transfer)) (Spent a.process (at_line x))
+  pub exchange_asks : (g p : ℕ) (x : Line) (transfer : Transfer) (values : List Value) → transfer ≡ Send values → All IsConstant values
+      → a.setting.limits.units < length values → Asks a g (leaf (exchange p x transfer)) (Spent a.process (at_line x))
   exchange_asks g p x transfer values is plain more =
       subst (λ (r : Transfer). Asks a g (leaf (exchange p x r)) (Spent a.process (at_line x))) (sym is)
       (asking.arguments (at_line x) p (named_at x x.entry.message) (arguments (at_line x) values) expression.left_out (Spent a.process (at_line x)) a.state (arguments_spent a g (at_line x) deep values plain more))

@@ -22,7 +22,8 @@ use Rattle.pz_env_mimics.proofs.Choosing.{chosen_on, chosen_back}
 use Rattle.pz_env_mimics.proofs.Lines.{same_lines, same_end_line}
 
 module _ (known : Known) (g : Driving) (n : ModelTree) (closes : Closes g n) where
-  pub closed_run : (start end : Driven) (events : List Event) (standing : Standing) → IsDrivenStart g start → DrivenReaches g start events end standing → ClosedRun g n events end standing
+  pub closed_run : (start end : Driven) (events : List Event) (standing : Standing) → IsDrivenStart g start
+      → DrivenReaches g start events end standing → ClosedRun g n events end standing
   closed_run start end events standing begins reaches =
       let s = start_on known g n closes start begins in
       let r = reach_on known g n closes start events end standing reaches s.config s.same in
@@ -38,7 +39,8 @@ module _ (known : Known) (g : Driving) (n : ModelTree) (closes : Closes g n) whe
         ends = ends_same known g n closes end r.last r.both standing;
       }
 
-  pub driven_run : (start last : Config) (told : List Event) (standing : Standing) → IsStart (closed g n) start → Reaches (closed g n) start told last standing → DrivenRun g n told last standing
+  pub driven_run : (start last : Config) (told : List Event) (standing : Standing) → IsStart (closed g n) start
+      → Reaches (closed g n) start told last standing → DrivenRun g n told last standing
   driven_run start last told standing begins reaches =
       let s = start_back known g n closes start begins in
       let r = reach_back known g n closes start told last standing reaches s.start s.same in
@@ -54,7 +56,8 @@ module _ (known : Known) (g : Driving) (n : ModelTree) (closes : Closes g n) whe
         ends = ends_same known g n closes r.end last r.both standing;
       }
 
-  pub chosen_closed_run : (policy : Policy) (start end : Driven) (events : List Event) (ending : RunEnding) → IsDrivenStart g start → IsChosenDrivenRun g policy 0 start events end ending → ChosenClosedRun g n policy events end ending
+  pub chosen_closed_run : (policy : Policy) (start end : Driven) (events : List Event) (ending : RunEnding) → IsDrivenStart g start
+      → IsChosenDrivenRun g policy 0 start events end ending → ChosenClosedRun g n policy events end ending
   chosen_closed_run policy start end events ending begins run =
       let s = start_on known g n closes start begins in
       let r = chosen_on known g n closes policy 0 start events end ending run s.config s.same in
@@ -68,7 +71,8 @@ module _ (known : Known) (g : Driving) (n : ModelTree) (closes : Closes g n) whe
         clock = r.both.both.clock;
       }
 
-  pub chosen_driven_run : (policy : Policy) (start last : Config) (told : List Event) (ending : RunEnding) → IsStart (closed g n) start → IsChosenRun (closed g n) policy 0 start told last ending → ChosenDrivenRun g n policy told last ending
+  pub chosen_driven_run : (policy : Policy) (start last : Config) (told : List Event) (ending : RunEnding) → IsStart (closed g n) start
+      → IsChosenRun (closed g n) policy 0 start told last ending → ChosenDrivenRun g n policy told last ending
   chosen_driven_run policy start last told ending begins run =
       let s = start_back known g n closes start begins in
       let r = chosen_back known g n closes policy 0 start told last ending run s.start s.same in
