@@ -24,13 +24,13 @@ use Rattle.pz_env_rules.specs.Driven.{Driven, plain, Gives, Gets}
 use Rattle.pz_env_mimics.specs.Environments.{exchange}
 use Rattle.pz_env_mimics.specs.Closing.{Closes, closed}
 use Rattle.pz_env_mimics.proofs.Known.{Known}
-use Rattle.pz_env_mimics.proofs.Environment.{IsDoing, place_of}
-use Rattle.pz_env_mimics.proofs.Doing.{PartIs, offers_there}
+use Rattle.pz_env_mimics.proofs.Doing.{offers_there}
+use Rattle.pz_env_mimics.proofs.Environment.{IsDoing, place_of, PartIs}
 use Rattle.pz_env_mimics.proofs.Moving as moving
 use Rattle.pz_env_mimics.proofs.Moving.{Becomes, TakenOr, fits_in, too_full}
 use Rattle.pz_env_mimics.proofs.Mimics as mimics
 use Rattle.pz_env_mimics.proofs.Mimics.{Mimics, Fit, fit_plain}
-use Rattle.pz_env_mimics.proofs.Pairs as paired
+use Rattle.pz_env_mimics.proofs.Parts as parts
 
 offers_same : (x y : Line) (r s : List Line) → offers x r ≡ offers y s → (x ≡ y) × (r ≡ s)
 offers_same x y r s e = (cc, cc)
@@ -53,7 +53,7 @@ module _ (known : Known) (g : Driving) (n : ModelTree) (closes : Closes g n) whe
     seen = mimics.seen known g n closes d c m
 
     abbrev here : Place
-    here = paired.here known g n closes d c m
+    here = parts.here known g n closes d c m
 
     abbrev env_there : End
     env_there = record { process = env; place = here }
@@ -162,7 +162,7 @@ module _ (known : Known) (g : Driving) (n : ModelTree) (closes : Closes g n) whe
     pub gives_so : (x : Line) (rest : List Line) (values : List Value) → Gives g d x rest values
         → (r : Result Process Trouble) × Acts (closed g n) c (λ a f. Hands a f (plain g values)) env_there r
     gives_so x rest values is =
-        let fit = (paired.offered known g n closes d c m x rest is.doing).fit in
+        let fit = (parts.offered known g n closes d c m x rest is.doing).fit in
         let r = and_then (Ok (done_in m.more.state)) (settled seen (at_line x) m.more.term here) in
         (r, acts_there (λ a f. Hands a f (plain g values)) here (leaf (exchange (port x) x x.entry.transfer)) (at_line x) (Ok (done_in m.more.state)) (exchange_there x rest is.doing) (moving.hands_there seen closes.limits.units closes.limits.depth closes.limits.height port Fits_line (fit_plain known g n closes) x values (plain g values) fit is.sends is.paid refl))
 

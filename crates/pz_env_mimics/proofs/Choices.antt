@@ -19,7 +19,7 @@ use Rattle.pz_env_mimics.proofs.Mimics as mimics
 use Rattle.pz_env_mimics.proofs.Mimics.{Mimics}
 use Rattle.pz_env_mimics.proofs.Matching as matching
 use Rattle.pz_env_mimics.proofs.Matching.{SameEnds, of_system, of_env, SameActions, at_number}
-use Rattle.pz_env_mimics.proofs.Pairs as paired
+use Rattle.pz_env_mimics.proofs.Parts as parts
 use Rattle.pz_env_mimics.proofs.Offers as both
 use Rattle.pz_env_mimics.proofs.Outcomes.{SameNext, goes, fails}
 
@@ -52,7 +52,7 @@ module _ (known : Known) (g : Driving) (n : ModelTree) (closes : Closes g n) whe
 
   module _ (d : Driven) (c : Config) (m : Both d c) where
     abbrev here : Place
-    here = paired.here known g n closes d c m
+    here = parts.here known g n closes d c m
 
     clocks : c.clock ≡ d.system.clock
     clocks = m.both.clock

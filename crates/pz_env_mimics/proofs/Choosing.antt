@@ -15,7 +15,7 @@ use Rattle.pz_env_rules.specs.ChosenRuns.{IsChosenDrivenRun}
 use Rattle.pz_env_mimics.specs.Closing.{Closes, closed, SameEvents}
 use Rattle.pz_env_mimics.proofs.Known.{Known}
 use Rattle.pz_env_mimics.proofs.Mimics.{Mimics}
-use Rattle.pz_env_mimics.proofs.Pairs as paired
+use Rattle.pz_env_mimics.proofs.Parts as parts
 use Rattle.pz_env_mimics.proofs.Moments.{moment_on, moment_back}
 use Rattle.pz_env_mimics.proofs.Nexts.{next_on, next_back}
 use Rattle.pz_env_mimics.proofs.Passing.{passes_on, passes_back}
@@ -55,7 +55,7 @@ module _ (known : Known) (g : Driving) (n : ModelTree) (closes : Closes g n) (po
         told = acted c.clock count number b.action ∷ rest.told;
         last = rest.last;
         is = chosen.acts j c on.config rest.last k count number b.action rest.told ending (moment_on known g n closes d c m k moment) (same_decided j c.clock d.system.clock k (takes count number) m.both.clock decides) b.is (subst (Next (closed g n) c b.action) on.is s.is) rest.is;
-        same = (same_acted known g n closes (paired.here known g n closes d c m) c.clock d.system.clock count number a b.action m.both.clock b.same, rest.same);
+        same = (same_acted known g n closes (parts.here known g n closes d c m) c.clock d.system.clock count number a b.action m.both.clock b.same, rest.same);
         both = rest.both;
       }
   chosen_on _ _ _ _ _ (driven_chosen.stops j d k count number a trouble moment decides choice step) c m =
@@ -66,7 +66,7 @@ module _ (known : Known) (g : Driving) (n : ModelTree) (closes : Closes g n) (po
         told = acted c.clock count number b.action ∷ [];
         last = c;
         is = chosen.stops j c k count number b.action trouble (moment_on known g n closes d c m k moment) (same_decided j c.clock d.system.clock k (takes count number) m.both.clock decides) b.is (subst (Next (closed g n) c b.action) ends s.is);
-        same = (same_acted known g n closes (paired.here known g n closes d c m) c.clock d.system.clock count number a b.action m.both.clock b.same, tt);
+        same = (same_acted known g n closes (parts.here known g n closes d c m) c.clock d.system.clock count number a b.action m.both.clock b.same, tt);
         both = m;
       }
   chosen_on _ _ _ _ _ (driven_chosen.passes j d next end k time events ending moment decides step more) c m =
@@ -106,7 +106,7 @@ module _ (known : Known) (g : Driving) (n : ModelTree) (closes : Closes g n) (po
         events = acted d.system.clock count number a.action ∷ rest.events;
         end = rest.end;
         is = driven_chosen.acts j d on.driven rest.end k count number a.action rest.events ending (moment_back known g n closes d c m k moment) (same_decided j d.system.clock c.clock k (takes count number) (sym m.both.clock) decides) a.is (subst (DrivenNext g d a.action) on.is s.is) rest.is;
-        same = (same_acted known g n closes (paired.here known g n closes d c m) c.clock d.system.clock count number a.action b m.both.clock a.same, rest.same);
+        same = (same_acted known g n closes (parts.here known g n closes d c m) c.clock d.system.clock count number a.action b m.both.clock a.same, rest.same);
         both = rest.both;
       }
   chosen_back _ _ _ _ _ (chosen.stops j c k count number b trouble moment decides choice step) d m =
@@ -117,7 +117,7 @@ module _ (known : Known) (g : Driving) (n : ModelTree) (closes : Closes g n) (po
         events = acted d.system.clock count number a.action ∷ [];
         end = d;
         is = driven_chosen.stops j d k count number a.action trouble (moment_back known g n closes d c m k moment) (same_decided j d.system.clock c.clock k (takes count number) (sym m.both.clock) decides) a.is (subst (DrivenNext g d a.action) ends s.is);
-        same = (same_acted known g n closes (paired.here known g n closes d c m) c.clock d.system.clock count number a.action b m.both.clock a.same, tt);
+        same = (same_acted known g n closes (parts.here known g n closes d c m) c.clock d.system.clock count number a.action b m.both.clock a.same, tt);
         both = m;
       }
   chosen_back _ _ _ _ _ (chosen.passes j c next last k time told ending moment decides step more) d m =

@@ -8,7 +8,7 @@ use Rattle.pz_offer.specs.declared.trouble.Trouble.{Trouble}
 use Rattle.pz_offer.specs.declared.trouble.Trouble.TheVariants.{Spent}
 use Rattle.pz_rules.specs.declared.action.Kind.{Kind}
 use Rattle.pz_rules.specs.declared.action.Kind.TheVariants.{Expire}
-use Rattle.pz_rules.specs.Terms.{Term, done, leaf, sequence}
+use Rattle.pz_rules.specs.Terms.{Term, leaf}
 use Rattle.pz_rules.specs.Settings.{Context}
 use Rattle.pz_rules.specs.Active.{IsActive}
 use Rattle.pz_rules.specs.InternalActions.{Can}
@@ -18,40 +18,12 @@ use Rattle.pz_rules.specs.Delays.{Delays}
 use Rattle.pz_env_script.specs.declared.entry.Transfer.{Transfer}
 use Rattle.pz_env_script.specs.declared.entry.Transfer.TheVariants.{Send, Receive}
 use Rattle.pz_env_script.specs.Entries.{values_in}
-use Rattle.pz_env_rules.specs.Environment.{Line, at_line, Doing, over, waits, offers}
+use Rattle.pz_env_rules.specs.Environment.{Line, at_line, Doing, waits, offers}
 use Rattle.pz_env_mimics.specs.Environments.{exchange, IsPlain}
 use Rattle.pz_env_mimics.proofs.Literals.{IsConstant}
-use Rattle.pz_env_mimics.proofs.Environment.{IsWaiting, behind, offering, called, IsDoing, finished, waiting_for, offering_it, place_of, IsAround, IsPart, itself, outer, part_waiting, part_offering, part_done, active_offering, active_in_sequence}
+use Rattle.pz_env_mimics.proofs.Environment.{behind, IsDoing, waiting_for, offering_it, place_of, active_offering, active_in_sequence, PartIs, around_it, ended, delayed, exchanges}
 use Rattle.pz_env_mimics.proofs.Speaking as speaking
-use Rattle.pz_env_mimics.proofs.Speaking.{around_cannot, around_never_sends, around_never_receives, around_never_judges, around_never_asks, around_never_delays, done_cannot, done_never_sends, done_never_receives, done_never_judges, done_never_asks, done_never_delays}
-
-module _ (port : Line → ℕ) (Fit : Line → Type 0) where
-  -- which part of the environment an active part is
-  pub data PartIs : Doing → Term → Place → ℕ → Term → Type 0 where
-    around_it : (doing : Doing) (whole : Term) (place : Place) (g : ℕ) (part : Term) → IsAround part → PartIs doing whole place g part
-    ended : (whole : Term) (place : Place) (g : ℕ) → PartIs over whole place g done
-    delayed : (left : ℕ) (x : Line) (rest : List Line) (t : Term) → Fit x → All Fit rest → IsWaiting x left t
-        → PartIs (waits left x rest) (called (sequence t (behind port x rest))) (0 ∷ 0 ∷ []) 1 t
-    exchanges : (x : Line) (rest : List Line) → Fit x → All Fit rest
-        → PartIs (offers x rest) (called (offering port x rest)) (place_of (offers x rest)) 1 (leaf (exchange (port x) x x.entry.transfer))
-
-  pub part_is : (a : Context) (doing : Doing) (whole : Term) (place : Place) (g : ℕ) (part : Term) → IsDoing port Fit doing whole
-      → IsActive a whole place g part → PartIs doing whole place g part
-  part_is a _ _ place g part finished act =
-      subst (λ (t : Term). PartIs over done place g t) (sym (part_done a place g part act)) (ended done place g)
-  part_is a _ _ place g part (waiting_for left x rest t fit fits is) act =
-      by place g part (part_waiting a port x rest left t is place g part act)
-    where
-      by : (place : Place) (g : ℕ) (part : Term) → IsPart (0 ∷ 0 ∷ []) t place g part
-          → PartIs (waits left x rest) (called (sequence t (behind port x rest))) place g part
-      by _ _ _ itself = delayed left x rest t fit fits is
-      by _ _ _ (outer place g part around) = around_it (waits left x rest) (called (sequence t (behind port x rest))) place g part around
-  part_is a _ _ place g part (offering_it x rest fit fits) act = by place g part (part_offering a port x rest place g part act)
-    where
-      by : (place : Place) (g : ℕ) (part : Term) → IsPart (place_of (offers x rest)) (leaf (exchange (port x) x x.entry.transfer)) place g part
-          → PartIs (offers x rest) (called (offering port x rest)) place g part
-      by _ _ _ itself = exchanges x rest fit fits
-      by _ _ _ (outer place g part around) = around_it (offers x rest) (called (offering port x rest)) place g part around
+use Rattle.pz_env_mimics.proofs.Silent.{around_cannot, around_never_sends, around_never_receives, around_never_judges, around_never_asks, around_never_delays, done_cannot, done_never_sends, done_never_receives, done_never_judges, done_never_asks, done_never_delays}
 
 -- it waits, and nothing is left of it
 pub record Expires (doing : Doing) (place : Place) (kind : Kind) (at : Pos) : Type 0 where

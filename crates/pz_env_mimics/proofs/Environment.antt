@@ -4,7 +4,7 @@ use Rattle.pz_syntax.specs.Statements.{then}
 use Rattle.pz_offer.specs.PlaceOrder.{Place}
 use Rattle.pz_rules.specs.Terms.{Steps, Term, done, leaf, wait, sequence, frame, first_or}
 use Rattle.pz_rules.specs.Settings.{Context}
-use Rattle.pz_rules.specs.Active.{Reached, Active, here, inside}
+use Rattle.pz_rules.specs.Active.{Reached, Active, IsActive, here, inside}
 use Rattle.pz_env_rules.specs.Environment.{Line, at_line, wait_of, Doing, over, waits, offers}
 use Rattle.pz_env_mimics.specs.Environments.{exchange, waiting, statements}
 
@@ -121,3 +121,31 @@ module _ (a : Context) (port : Line → ℕ) where
   active_offering x [] = active_called a (leaf (exchange (port x) x x.entry.transfer))
   active_offering x (y ∷ ys) =
       active_in_sequence a (leaf (exchange (port x) x x.entry.transfer)) (statements port (y ∷ ys))
+
+module _ (port : Line → ℕ) (Fit : Line → Type 0) where
+  -- which part of the environment an active part is
+  pub data PartIs : Doing → Term → Place → ℕ → Term → Type 0 where
+    around_it : (doing : Doing) (whole : Term) (place : Place) (g : ℕ) (part : Term) → IsAround part → PartIs doing whole place g part
+    ended : (whole : Term) (place : Place) (g : ℕ) → PartIs over whole place g done
+    delayed : (left : ℕ) (x : Line) (rest : List Line) (t : Term) → Fit x → All Fit rest → IsWaiting x left t
+        → PartIs (waits left x rest) (called (sequence t (behind port x rest))) (0 ∷ 0 ∷ []) 1 t
+    exchanges : (x : Line) (rest : List Line) → Fit x → All Fit rest
+        → PartIs (offers x rest) (called (offering port x rest)) (place_of (offers x rest)) 1 (leaf (exchange (port x) x x.entry.transfer))
+
+  pub part_is : (a : Context) (doing : Doing) (whole : Term) (place : Place) (g : ℕ) (part : Term) → IsDoing port Fit doing whole
+      → IsActive a whole place g part → PartIs doing whole place g part
+  part_is a _ _ place g part finished act =
+      subst (λ (t : Term). PartIs over done place g t) (sym (part_done a place g part act)) (ended done place g)
+  part_is a _ _ place g part (waiting_for left x rest t fit fits is) act =
+      by place g part (part_waiting a port x rest left t is place g part act)
+    where
+      by : (place : Place) (g : ℕ) (part : Term) → IsPart (0 ∷ 0 ∷ []) t place g part
+          → PartIs (waits left x rest) (called (sequence t (behind port x rest))) place g part
+      by _ _ _ itself = delayed left x rest t fit fits is
+      by _ _ _ (outer place g part around) = around_it (waits left x rest) (called (sequence t (behind port x rest))) place g part around
+  part_is a _ _ place g part (offering_it x rest fit fits) act = by place g part (part_offering a port x rest place g part act)
+    where
+      by : (place : Place) (g : ℕ) (part : Term) → IsPart (place_of (offers x rest)) (leaf (exchange (port x) x x.entry.transfer)) place g part
+          → PartIs (offers x rest) (called (offering port x rest)) place g part
+      by _ _ _ itself = exchanges x rest fit fits
+      by _ _ _ (outer place g part around) = around_it (offers x rest) (called (offering port x rest)) place g part around

@@ -1,6 +1,7 @@
 pub mod Literals
 pub mod PlainValues
 pub mod Environment
+pub mod Silent
 pub mod Speaking
 pub mod Doing
 pub mod Settling
@@ -10,6 +11,7 @@ pub mod Elapsing
 pub mod Matching
 pub mod Known
 pub mod Mimics
+pub mod Parts
 pub mod Pairs
 pub mod Offers
 pub mod Moments

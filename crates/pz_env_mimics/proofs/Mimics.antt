@@ -20,8 +20,7 @@ use Rattle.pz_env_same.specs.OneMore.{OneMore}
 use Rattle.pz_env_mimics.specs.Environments.{IsPlain}
 use Rattle.pz_env_mimics.specs.Closing.{Closes, closed}
 use Rattle.pz_env_mimics.proofs.Known.{Known}
-use Rattle.pz_env_mimics.proofs.Environment.{IsDoing}
-use Rattle.pz_env_mimics.proofs.Doing.{PartIs, part_is}
+use Rattle.pz_env_mimics.proofs.Environment.{IsDoing, PartIs, part_is}
 
 pub got_last : {X : Type 0} (xs : List X) (x : X) (i : ℕ) → i ≡ length xs → slice_get (xs ++ x ∷ []) i ≡ Some x
 got_last [] x zero e = refl

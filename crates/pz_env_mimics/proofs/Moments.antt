@@ -30,6 +30,7 @@ use Rattle.pz_env_mimics.proofs.Mimics as mimics
 use Rattle.pz_env_mimics.proofs.Mimics.{Mimics, Fit, fit_plain}
 use Rattle.pz_env_mimics.proofs.Matching as matching
 use Rattle.pz_env_mimics.proofs.Matching.{of_system, of_env, SameActions, SameSources, parts, pairs}
+use Rattle.pz_env_mimics.proofs.Parts as parts
 use Rattle.pz_env_mimics.proofs.Pairs as paired
 use Rattle.pz_env_mimics.proofs.Offers as both
 
@@ -73,7 +74,7 @@ module _ (known : Known) (g : Driving) (n : ModelTree) (closes : Closes g n) (d 
   seen = mimics.seen known g n closes d c m
 
   abbrev here : Place
-  here = paired.here known g n closes d c m
+  here = parts.here known g n closes d c m
 
   abbrev env_there : End
   env_there = record { process = env; place = here }
@@ -98,7 +99,7 @@ module _ (known : Known) (g : Driving) (n : ModelTree) (closes : Closes g n) (d 
         system.judged w p.sender p.receiver message parcel t p.is (both.judged_on known g n closes d c m w s r p.receiver message parcel (Err t) is p.same_receiver says),
       )
   trouble_on _ _ (spent x rest values is sends more) =
-      let at = paired.offered known g n closes d c m x rest is in (
+      let at = parts.offered known g n closes d c m x rest is in (
         part env_there,
         parts (environment_end g) env_there of_env,
         system.asked env_there seen 1 (leaf (exchange (port x) x x.entry.transfer)) (Spent env (at_line x)) at.part (asks_there seen closes.limits.units closes.limits.depth port Fits plain_lines x values at.fit sends more),
@@ -116,7 +117,7 @@ module _ (known : Known) (g : Driving) (n : ModelTree) (closes : Closes g n) (d 
       let e = mimics.env_part known g n closes d c m at a f k there is in
       let h = asks_only seen closes.limits.units closes.limits.depth port Fits plain_lines d.environment.doing m.more.term at.place f k t e.is (subst (λ (b : Context). Asks b f k t) e.context asks) in (
         part (environment_end g),
-        subst (λ (b : End). SameSources env here [] (part b) (part (environment_end g))) (paired.end_is known g n closes d c m at is h.there) (parts env_there (environment_end g) of_env),
+        subst (λ (b : End). SameSources env here [] (part b) (part (environment_end g))) (parts.end_is known g n closes d c m at is h.there) (parts env_there (environment_end g) of_env),
         subst (DrivenTroubles g d (part (environment_end g))) (sym h.trouble_is) (spent h.line h.rest h.values h.is h.sends h.more),
       )
 

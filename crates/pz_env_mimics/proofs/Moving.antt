@@ -20,8 +20,7 @@ use Rattle.pz_env_script.specs.Entries.{values_in}
 use Rattle.pz_env_rules.specs.Environment.{Line, at_line, Doing, waits, offers, begins}
 use Rattle.pz_env_mimics.specs.Environments.{exchange, IsPlain}
 use Rattle.pz_env_mimics.proofs.Literals.{IsConstant}
-use Rattle.pz_env_mimics.proofs.Environment.{behind, offering, called, IsDoing, waiting_for, offering_it, place_of, active_in_sequence}
-use Rattle.pz_env_mimics.proofs.Doing.{PartIs, around_it, ended, delayed, exchanges}
+use Rattle.pz_env_mimics.proofs.Environment.{behind, offering, called, IsDoing, waiting_for, offering_it, place_of, active_in_sequence, PartIs, around_it, ended, delayed, exchanges}
 use Rattle.pz_env_mimics.proofs.Settling.{whole_then, begins_so, settled_wait, settled_exchange}
 use Rattle.pz_env_mimics.proofs.Deeds.{TakenBy, taken, is_full, around_never_performs, around_never_hands, around_never_takes, done_never_performs, done_never_hands, done_never_takes, waiting_performs, waiting_performs_there, waiting_never_hands, waiting_never_takes, exchange_never_performs, exchange_hands, exchange_hands_there, exchange_takes, exchange_takes_there}
 

@@ -32,7 +32,7 @@ use Rattle.pz_env_mimics.proofs.Known.{Known}
 use Rattle.pz_env_mimics.proofs.Mimics as mimics
 use Rattle.pz_env_mimics.proofs.Mimics.{Mimics, Fit, fit_plain}
 use Rattle.pz_env_mimics.proofs.Matching.{one_end, SameEnds, of_system, of_env, SameActions, internal, communication}
-use Rattle.pz_env_mimics.proofs.Pairs as paired
+use Rattle.pz_env_mimics.proofs.Parts as parts
 use Rattle.pz_env_mimics.proofs.Acting as acting
 use Rattle.pz_env_mimics.proofs.Outcomes as outcomes
 use Rattle.pz_env_mimics.proofs.Outcomes.{SameNext}
@@ -55,7 +55,7 @@ module _ (known : Known) (g : Driving) (n : ModelTree) (closes : Closes g n) whe
     seen = mimics.seen known g n closes d c m
 
     abbrev here : Place
-    here = paired.here known g n closes d c m
+    here = parts.here known g n closes d c m
 
     abbrev env_there : End
     env_there = record { process = env; place = here }

@@ -32,6 +32,7 @@ use Rattle.pz_env_mimics.proofs.Mimics as mimics
 use Rattle.pz_env_mimics.proofs.Mimics.{Mimics, Fit, fit_plain}
 use Rattle.pz_env_mimics.proofs.Matching as matching
 use Rattle.pz_env_mimics.proofs.Matching.{SameEnds, of_system, of_env, SameActions, internal, communication, Whole, whole_other}
+use Rattle.pz_env_mimics.proofs.Parts as parts
 use Rattle.pz_env_mimics.proofs.Pairs as paired
 
 module _ (known : Known) (g : Driving) (n : ModelTree) (closes : Closes g n) (d : Driven) (c : Config) (m : Mimics known g n closes d c) where
@@ -65,11 +66,11 @@ module _ (known : Known) (g : Driving) (n : ModelTree) (closes : Closes g n) (d 
   env_receives : (w : ℕ) (s r : End) (message : List ℕ) (parcel : ParcelView) → IsDrivenPair g d w s r message parcel → r ≡ environment_end g
       → IsJudged (closed g n) c env_there parcel (Ok true)
   env_receives w s r message parcel (of_processes _ _ _ _ _ is) same =
-      let less = paired.low_of known g n closes d c m r is.receives_at is.receives_frame is.receives_part is.receiver_active in
+      let less = parts.low_of known g n closes d c m r is.receives_at is.receives_frame is.receives_part is.receiver_active in
       let at : r.process ≡ env = ap (λ (e : End). e.process) same in
       absurd (omega (arith, less, at))
   env_receives w _ r _ _ (to_system _ _ x rest values gives on hears) same =
-      let less = paired.low_of known g n closes d c m r hears.seen hears.frame hears.part hears.active in
+      let less = parts.low_of known g n closes d c m r hears.seen hears.frame hears.part hears.active in
       let at : r.process ≡ env = ap (λ (e : End). e.process) same in
       absurd (omega (arith, less, at))
   env_receives w s _ _ parcel (from_system _ _ x rest _ gets on says) same =
@@ -77,14 +78,14 @@ module _ (known : Known) (g : Driving) (n : ModelTree) (closes : Closes g n) (d 
         seen = seen;
         frame = 1;
         part = leaf (exchange (port x) x x.entry.transfer);
-        active = (paired.offered known g n closes d c m x rest gets.doing).part;
+        active = (parts.offered known g n closes d c m x rest gets.doing).part;
         judges = judges_there seen closes.limits.units closes.limits.depth port Fits (fit_plain known g n closes) x (length parcel.values) parcel gets.receives;
       }
 
   pub judged_on : (w : ℕ) (s r u : End) (message : List ℕ) (parcel : ParcelView) (verdict : Result Bool Trouble)
       → IsDrivenPair g d w s r message parcel → Ends r u → IsDrivenJudged g d r parcel verdict → IsJudged (closed g n) c u parcel verdict
   judged_on w s r u message parcel verdict pair same (by_process _ _ _ is) =
-      let low = paired.low_of known g n closes d c m r is.seen is.frame is.part is.active in
+      let low = parts.low_of known g n closes d c m r is.seen is.frame is.part is.active in
       subst (λ (e : End). IsJudged (closed g n) c e parcel verdict) (matching.one_end env [] here r r r u (of_system r low) same refl)
       ((known.verdicts n g.setting d.system c m.more closes.rules m.both r parcel verdict low).0 is)
   judged_on w s _ u message parcel _ pair same (by_environment _) =
@@ -109,7 +110,7 @@ module _ (known : Known) (g : Driving) (n : ModelTree) (closes : Closes g n) (d 
   offer_on _ (acts at kind pos is) = (Internal at kind pos, internal at at kind pos (of_system at (low is)), (known.internals n g.setting d.system c m.more closes.rules m.both at kind pos (low is)).0 is)
     where
       low : Offers g.setting d.system (Internal at kind pos) → at.process < env
-      low (system.internal _ a f t _ _ part can) = paired.low_of known g n closes d c m at a f t part
+      low (system.internal _ a f t _ _ part can) = parts.low_of known g n closes d c m at a f t part
   offer_on _ (expires x rest is) =
       let e = expires_there seen closes.limits.units closes.limits.depth port Fits (fit_plain known g n closes) x rest m.more.term (subst (λ (k : Doing). IsDoing port Fits k m.more.term) is m.does) in
       let place : here ≡ 0 ∷ 0 ∷ [] = ap place_of is in (
@@ -137,7 +138,7 @@ module _ (known : Known) (g : Driving) (n : ModelTree) (closes : Closes g n) (d 
           let e = mimics.env_part known g n closes d c m at a f t part is in
           let h = can_only seen closes.limits.units closes.limits.depth port Fits (fit_plain known g n closes) d.environment.doing m.more.term at.place f t kind pos e.is (subst (λ (b : Context). Can b f t kind pos) e.context can) in
           let same : Internal env_there Expire (at_line h.line) ≡ Internal at kind pos =
-          ap (λ (x : End). Internal x Expire (at_line h.line)) (paired.end_is known g n closes d c m at is h.there)
+          ap (λ (x : End). Internal x Expire (at_line h.line)) (parts.end_is known g n closes d c m at is h.there)
           ∙ ap (λ (k : Kind). Internal at k (at_line h.line)) (sym h.expires)
           ∙ ap (λ (x : Pos). Internal at kind x) (sym h.at_it)
           in (

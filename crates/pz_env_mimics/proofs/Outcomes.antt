@@ -25,7 +25,7 @@ use Rattle.pz_env_mimics.proofs.Known.{Known}
 use Rattle.pz_env_mimics.proofs.Moving.{Becomes, TakenOr, fits_in, too_full}
 use Rattle.pz_env_mimics.proofs.Mimics as mimics
 use Rattle.pz_env_mimics.proofs.Mimics.{Mimics, Fit, fit_plain}
-use Rattle.pz_env_mimics.proofs.Pairs as paired
+use Rattle.pz_env_mimics.proofs.Parts as parts
 
 never : (b : Bool) → (b ≡ true → ⊥) → b ≡ false
 never true apart = absurd (apart refl)
@@ -54,7 +54,7 @@ module _ (known : Known) (g : Driving) (n : ModelTree) (closes : Closes g n) whe
     seen = mimics.seen known g n closes d c m
 
     abbrev here : Place
-    here = paired.here known g n closes d c m
+    here = parts.here known g n closes d c m
 
     abbrev env_there : End
     env_there = record { process = env; place = here }

@@ -1,31 +1,30 @@
 -- The pairs of both are the same.
-use Rattle.std.proofs.Common.{◌≡◌, ◌<◌, ◌≤◌, ◌⊎◌, inl, inr, ℕ, List, [], length, sym, ap, subst, ◌∙◌, arith}
-use Rattle.pz_syntax.specs.declared.tokens.Pos.{Pos}
+use Rattle.std.proofs.Common.{◌≡◌, ◌<◌, ◌⊎◌, inl, inr, ℕ, List, [], length, sym, subst, ◌∙◌, arith}
 use Rattle.pz_syntax.specs.Classes.{ModelTree}
 use Rattle.pz_copy.specs.Parcels.{ParcelView}
 use Rattle.pz_offer.specs.declared.end.End.{End}
 use Rattle.pz_offer.specs.PlaceOrder.{Place}
 use Rattle.pz_rules.specs.declared.action.Action.{Action}
-use Rattle.pz_rules.specs.Terms.{Term, leaf}
-use Rattle.pz_rules.specs.Settings.{Setting, Context}
-use Rattle.pz_rules.specs.Active.{IsActive}
+use Rattle.pz_rules.specs.Terms.{leaf}
+use Rattle.pz_rules.specs.Settings.{Context}
 use Rattle.pz_rules.specs.Messages.{Sends}
 use Rattle.pz_rules.specs.Ports.{IsWire}
 use Rattle.pz_rules.specs.Configurations.{Config}
-use Rattle.pz_rules.specs.Offers.{PartAt, IsPair}
-use Rattle.pz_env_rules.specs.Environment.{Line, at_line, Doing, offers}
+use Rattle.pz_rules.specs.Offers.{IsPair}
+use Rattle.pz_env_rules.specs.Environment.{Line, at_line}
 use Rattle.pz_env_rules.specs.Joining.{Driving}
 use Rattle.pz_env_rules.specs.Driven.{Driven, environment_end, IsWireOf}
 use Rattle.pz_env_rules.specs.Offers.{Hears, Says, IsDrivenPair, of_processes, to_system, from_system}
-use Rattle.pz_env_same.specs.SameRules.{in_model, seen_in}
-use Rattle.pz_env_mimics.specs.Environments.{exchange, IsPlain}
+use Rattle.pz_env_same.specs.SameRules.{seen_in}
+use Rattle.pz_env_mimics.specs.Environments.{exchange}
 use Rattle.pz_env_mimics.specs.Closing.{Closes, closed}
 use Rattle.pz_env_mimics.proofs.Known.{Known}
-use Rattle.pz_env_mimics.proofs.Environment.{IsDoing, place_of}
-use Rattle.pz_env_mimics.proofs.Doing.{sends_only, receives_only, offers_there, sends_there, receives_there}
+use Rattle.pz_env_mimics.proofs.Environment.{place_of}
+use Rattle.pz_env_mimics.proofs.Doing.{sends_only, receives_only, sends_there, receives_there}
 use Rattle.pz_env_mimics.proofs.Mimics as mimics
 use Rattle.pz_env_mimics.proofs.Mimics.{Mimics, Fit, fit_plain}
 use Rattle.pz_env_mimics.proofs.Matching.{SameEnds, of_system, of_env, SameActions}
+use Rattle.pz_env_mimics.proofs.Parts as parts
 
 module _ (known : Known) (g : Driving) (n : ModelTree) (closes : Closes g n) (d : Driven) (c : Config) (m : Mimics known g n closes d c) where
   abbrev env : ℕ
@@ -41,82 +40,17 @@ module _ (known : Known) (g : Driving) (n : ModelTree) (closes : Closes g n) (d 
   seen = mimics.seen known g n closes d c m
 
   -- the place of the environment's part that acts
-  abbrev pub here : Place
+  abbrev here : Place
   here = place_of d.environment.doing
 
-  abbrev pub Ends : End → End → Type 0
+  abbrev Ends : End → End → Type 0
   Ends = SameEnds env [] here
 
-  abbrev pub Actions : Action → Action → Type 0
+  abbrev Actions : Action → Action → Type 0
   Actions = SameActions env [] here
 
   abbrev env_there : End
   env_there = record { process = env; place = here }
-
-  pub low_of : (at : End) (a : Context) (f : ℕ) (t : Term) → PartAt g.setting d.system at a f t → at.process < env
-  low_of at a f t is = known.parts_of g.setting d.system at a f t is
-
-  part_on : (at : End) (a : Context) (f : ℕ) (t : Term) → PartAt g.setting d.system at a f t → PartAt (closed g n) c at (seen_in n a) f t
-  part_on at a f t is = (known.parts_stand n g.setting d.system c m.more closes.rules m.both at f t).0 a is
-
-  part_back : (at : End) (a : Context) (f : ℕ) (t : Term) → at.process < env → PartAt (closed g n) c at a f t
-      → PartAt g.setting d.system at (seen_in g.setting.model a) f t
-  part_back at a f t low is =
-      (known.parts_stand n g.setting d.system c m.more closes.rules m.both at f t).1 a low is
-
-  -- Sends of the system
-
-  seen_again : (a : Context) → a.setting ≡ closed g n → seen_in n (seen_in g.setting.model a) ≡ a
-  seen_again a e =
-      ap (λ (s : Setting). let b : Context = record { setting = s; process = a.process; class = a.class; clock = a.clock; state = a.state } in b)
-      (ap (λ (s : Setting). in_model n s) e ∙ sym e)
-
-  setting_of : (at : End) (a : Context) (f : ℕ) (t : Term) → PartAt (closed g n) c at a f t → a.setting ≡ closed g n
-  setting_of at a f t is = ap (λ (b : Context). b.setting) is.stands.seen
-
-  sends_on : (at : End) (a : Context) (f : ℕ) (t : Term) (pos : Pos) (number : ℕ) (message : List ℕ) (parcel : ParcelView)
-      → PartAt g.setting d.system at a f t → Sends a f t pos number message parcel → Sends (seen_in n a) f t pos number message parcel
-  sends_on at a f t pos number message parcel is =
-      (known.sends n a f t pos number message parcel (known.sees n g.setting d.system at.process is.process a closes.rules is.stands)).0
-
-  sends_back : (at : End) (a : Context) (f : ℕ) (t : Term) (pos : Pos) (number : ℕ) (message : List ℕ) (parcel : ParcelView) → at.process < env
-      → PartAt (closed g n) c at a f t → Sends a f t pos number message parcel
-      → Sends (seen_in g.setting.model a) f t pos number message parcel
-  sends_back at a f t pos number message parcel low is says =
-      let old = part_back at a f t low is in
-      (known.sends n (seen_in g.setting.model a) f t pos number message parcel (known.sees n g.setting d.system at.process old.process (seen_in g.setting.model a) closes.rules old.stands)).1
-      (subst (λ (b : Context). Sends b f t pos number message parcel) (sym (seen_again a (setting_of at a f t is))) says)
-
-  -- The environment as a part
-
-  limits_units : 1 ≤ seen.setting.limits.units
-  limits_units = closes.limits.units
-
-  limits_depth : 1 ≤ seen.setting.limits.depth
-  limits_depth = closes.limits.depth
-
-  plain_lines : (x : Line) → Fits x → IsPlain x
-  plain_lines = fit_plain known g n closes
-
-  -- offered in the driven system, it is there as a part
-  pub record IsOffered (x : Line) (rest : List Line) : Type 0 where
-    pub fit : Fits x
-    pub part : PartAt (closed g n) c env_there seen 1 (leaf (exchange (port x) x x.entry.transfer))
-
-  pub offered : (x : Line) (rest : List Line) → d.environment.doing ≡ offers x rest → IsOffered x rest
-  offered x rest is =
-      let at = offers_there seen limits_units limits_depth port Fits plain_lines x rest m.more.term (subst (λ (k : Doing). IsDoing port Fits k m.more.term) is m.does) in
-      record {
-        fit = at.fit;
-        part = mimics.part_there known g n closes d c m here (leaf (exchange (port x) x x.entry.transfer)) (subst (λ (k : Place). IsActive seen m.more.term k 1 (leaf (exchange (port x) x x.entry.transfer))) (sym (ap place_of is)) at.active);
-      }
-
-  -- the one end of the environment that says something
-  pub end_is : (at : End) → at.process ≡ env → at.place ≡ here → env_there ≡ at
-  end_is at p q =
-      sym (ap (λ (k : ℕ). let e : End = record { process = k; place = at.place } in e) p ∙ ap (λ (k : Place). let e : End = record { process = env; place = k } in e) q)
-
-  -- Pairs
 
   pub record PairOn (w : ℕ) (s r : End) (message : List ℕ) (parcel : ParcelView) : Type 0 where
     pub sender : End
@@ -127,8 +61,8 @@ module _ (known : Known) (g : Driving) (n : ModelTree) (closes : Closes g n) (d 
 
   pub pair_on : (w : ℕ) (s r : End) (message : List ℕ) (parcel : ParcelView) → IsDrivenPair g d w s r message parcel → PairOn w s r message parcel
   pair_on w s r message parcel (of_processes _ _ _ _ _ is) =
-      let low = low_of s is.sends_at is.sends_frame is.sends_part is.sender_active in
-      let less = low_of r is.receives_at is.receives_frame is.receives_part is.receiver_active in
+      let low = parts.low_of known g n closes d c m s is.sends_at is.sends_frame is.sends_part is.sender_active in
+      let less = parts.low_of known g n closes d c m r is.receives_at is.receives_frame is.receives_part is.receiver_active in
       record {
         sender = s;
         receiver = r;
@@ -137,8 +71,8 @@ module _ (known : Known) (g : Driving) (n : ModelTree) (closes : Closes g n) (d 
         is = (known.pairs n g.setting d.system c m.more closes.rules m.both w s r message parcel low less).0 is;
       }
   pair_on w _ r _ _ (to_system _ _ x rest values gives on hears) =
-      let at = offered x rest gives.doing in
-      let less = low_of r hears.seen hears.frame hears.part hears.active in
+      let at = parts.offered known g n closes d c m x rest gives.doing in
+      let less = parts.low_of known g n closes d c m r hears.seen hears.frame hears.part hears.active in
       record {
         sender = env_there;
         receiver = r;
@@ -151,11 +85,11 @@ module _ (known : Known) (g : Driving) (n : ModelTree) (closes : Closes g n) (d 
           sender_active = at.part;
           sends_pos = at_line x;
           sends_port = port x;
-          sends = sends_there seen limits_units limits_depth port Fits plain_lines x values at.fit gives.sends gives.paid;
+          sends = sends_there seen closes.limits.units closes.limits.depth port Fits (fit_plain known g n closes) x values at.fit gives.sends gives.paid;
           receives_at = seen_in n hears.seen;
           receives_frame = hears.frame;
           receives_part = hears.part;
-          receiver_active = part_on r hears.seen hears.frame hears.part hears.active;
+          receiver_active = parts.part_on known g n closes d c m r hears.seen hears.frame hears.part hears.active;
           receives_pos = hears.pos;
           receives_port = hears.port;
           receives = hears.receives;
@@ -165,8 +99,8 @@ module _ (known : Known) (g : Driving) (n : ModelTree) (closes : Closes g n) (d 
         };
       }
   pair_on w s _ _ parcel (from_system _ _ x rest _ gets on says) =
-      let at = offered x rest gets.doing in
-      let low = low_of s says.seen says.frame says.part says.active in
+      let at = parts.offered known g n closes d c m x rest gets.doing in
+      let low = parts.low_of known g n closes d c m s says.seen says.frame says.part says.active in
       record {
         sender = s;
         receiver = env_there;
@@ -176,17 +110,17 @@ module _ (known : Known) (g : Driving) (n : ModelTree) (closes : Closes g n) (d 
           sends_at = seen_in n says.seen;
           sends_frame = says.frame;
           sends_part = says.part;
-          sender_active = part_on s says.seen says.frame says.part says.active;
+          sender_active = parts.part_on known g n closes d c m s says.seen says.frame says.part says.active;
           sends_pos = says.pos;
           sends_port = says.port;
-          sends = sends_on s says.seen says.frame says.part says.pos says.port x.entry.message parcel says.active says.sends;
+          sends = parts.sends_on known g n closes d c m s says.seen says.frame says.part says.pos says.port x.entry.message parcel says.active says.sends;
           receives_at = seen;
           receives_frame = 1;
           receives_part = leaf (exchange (port x) x x.entry.transfer);
           receiver_active = at.part;
           receives_pos = at_line x;
           receives_port = port x;
-          receives = receives_there seen limits_units limits_depth port Fits plain_lines x (length parcel.values) gets.receives;
+          receives = receives_there seen closes.limits.units closes.limits.depth port Fits (fit_plain known g n closes) x (length parcel.values) gets.receives;
           two = λ e. omega (arith, low, e);
           sender_wire = (closes.rules.wires s.process says.port w low).0 says.on;
           receiver_wire = (at.fit.wires w).1 on;
@@ -208,12 +142,12 @@ module _ (known : Known) (g : Driving) (n : ModelTree) (closes : Closes g n) (d 
       let says : Sends seen is.sends_frame is.sends_part is.sends_pos is.sends_port message parcel =
       subst (λ (a : Context). Sends a is.sends_frame is.sends_part is.sends_pos is.sends_port message parcel) e.context is.sends
       in
-      let h = sends_only seen limits_units limits_depth port Fits plain_lines d.environment.doing m.more.term s.place is.sends_frame is.sends_part is.sends_pos is.sends_port message parcel e.is says in
+      let h = sends_only seen closes.limits.units closes.limits.depth port Fits (fit_plain known g n closes) d.environment.doing m.more.term s.place is.sends_frame is.sends_part is.sends_pos is.sends_port message parcel e.is says in
       let hears : Hears g d r w message (length parcel.values) = record {
         seen = seen_in g.setting.model is.receives_at;
         frame = is.receives_frame;
         part = is.receives_part;
-        active = part_back r is.receives_at is.receives_frame is.receives_part less is.receiver_active;
+        active = parts.part_back known g n closes d c m r is.receives_at is.receives_frame is.receives_part less is.receiver_active;
         pos = is.receives_pos;
         port = is.receives_port;
         receives = is.receives;
@@ -225,7 +159,7 @@ module _ (known : Known) (g : Driving) (n : ModelTree) (closes : Closes g n) (d 
       record {
         sender = environment_end g;
         receiver = r;
-        same_sender = subst (Ends (environment_end g)) (end_is s at h.there) of_env;
+        same_sender = subst (Ends (environment_end g)) (parts.end_is known g n closes d c m s at h.there) of_env;
         same_receiver = of_system r less;
         is =
             subst (λ (p : ParcelView). IsDrivenPair g d w (environment_end g) r message p) (sym h.parcel_is)
@@ -239,15 +173,15 @@ module _ (known : Known) (g : Driving) (n : ModelTree) (closes : Closes g n) (d 
       → r.process ≡ env → PairBack w s r message parcel
   into_env w s r message parcel is low at =
       let e = mimics.env_part known g n closes d c m r is.receives_at is.receives_frame is.receives_part is.receiver_active at in
-      let h = receives_only seen limits_units limits_depth port Fits plain_lines d.environment.doing m.more.term r.place is.receives_frame is.receives_part is.receives_pos is.receives_port message (length parcel.values) e.is is.receives in
+      let h = receives_only seen closes.limits.units closes.limits.depth port Fits (fit_plain known g n closes) d.environment.doing m.more.term r.place is.receives_frame is.receives_part is.receives_pos is.receives_port message (length parcel.values) e.is is.receives in
       let says : Says g d s w message parcel = record {
         seen = seen_in g.setting.model is.sends_at;
         frame = is.sends_frame;
         part = is.sends_part;
-        active = part_back s is.sends_at is.sends_frame is.sends_part low is.sender_active;
+        active = parts.part_back known g n closes d c m s is.sends_at is.sends_frame is.sends_part low is.sender_active;
         pos = is.sends_pos;
         port = is.sends_port;
-        sends = sends_back s is.sends_at is.sends_frame is.sends_part is.sends_pos is.sends_port message parcel low is.sender_active is.sends;
+        sends = parts.sends_back known g n closes d c m s is.sends_at is.sends_frame is.sends_part is.sends_pos is.sends_port message parcel low is.sender_active is.sends;
         on = (closes.rules.wires s.process is.sends_port w low).1 is.sender_wire;
       } in
       let on : IsWireOf g h.line w =
@@ -257,7 +191,7 @@ module _ (known : Known) (g : Driving) (n : ModelTree) (closes : Closes g n) (d 
         sender = s;
         receiver = environment_end g;
         same_sender = of_system s low;
-        same_receiver = subst (Ends (environment_end g)) (end_is r at h.there) of_env;
+        same_receiver = subst (Ends (environment_end g)) (parts.end_is known g n closes d c m r at h.there) of_env;
         is =
             subst (λ (k : List ℕ). IsDrivenPair g d w s (environment_end g) k parcel) (sym h.name)
             (from_system w s h.line h.rest parcel (record { doing = h.is; receives = h.receives }) on (subst (λ (k : List ℕ). Says g d s w k parcel) h.name says));

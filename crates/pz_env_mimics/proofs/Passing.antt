@@ -22,7 +22,7 @@ use Rattle.pz_env_mimics.proofs.Environment.{IsDoing}
 use Rattle.pz_env_mimics.proofs.Elapsing as elapsing
 use Rattle.pz_env_mimics.proofs.Mimics as mimics
 use Rattle.pz_env_mimics.proofs.Mimics.{Mimics, Fit, fit_plain}
-use Rattle.pz_env_mimics.proofs.Pairs as paired
+use Rattle.pz_env_mimics.proofs.Parts as parts
 
 module _ (known : Known) (g : Driving) (n : ModelTree) (closes : Closes g n) where
   abbrev env : ℕ
@@ -42,7 +42,7 @@ module _ (known : Known) (g : Driving) (n : ModelTree) (closes : Closes g n) whe
     seen = mimics.seen known g n closes d c m
 
     abbrev here : Place
-    here = paired.here known g n closes d c m
+    here = parts.here known g n closes d c m
 
     abbrev env_there : End
     env_there = record { process = env; place = here }

@@ -18,7 +18,7 @@ use Rattle.pz_env_mimics.specs.Closing.{Closes, closed, SameEvents}
 use Rattle.pz_env_mimics.proofs.Known.{Known}
 use Rattle.pz_env_mimics.proofs.Mimics as mimics
 use Rattle.pz_env_mimics.proofs.Mimics.{Mimics}
-use Rattle.pz_env_mimics.proofs.Pairs as paired
+use Rattle.pz_env_mimics.proofs.Parts as parts
 use Rattle.pz_env_mimics.proofs.Moments.{moment_on, moment_back}
 use Rattle.pz_env_mimics.proofs.Nexts.{next_on, next_back}
 use Rattle.pz_env_mimics.proofs.Passing.{passes_on, passes_back}
@@ -50,7 +50,7 @@ module _ (known : Known) (g : Driving) (n : ModelTree) (closes : Closes g n) whe
         told = acted c.clock count k b.action ∷ rest.told;
         last = rest.last;
         is = runs.acts c on.config rest.last count k b.action rest.told standing (moment_on known g n closes d c m (Actions count) moment) b.is (subst (Next (closed g n) c b.action) on.is s.is) rest.is;
-        same = (same_acted known g n closes (paired.here known g n closes d c m) c.clock d.system.clock count k a b.action m.both.clock b.same, rest.same);
+        same = (same_acted known g n closes (parts.here known g n closes d c m) c.clock d.system.clock count k a b.action m.both.clock b.same, rest.same);
         both = rest.both;
       }
   reach_on _ _ _ _ (driven_runs.stops d count k a trouble moment choice step) c m =
@@ -61,7 +61,7 @@ module _ (known : Known) (g : Driving) (n : ModelTree) (closes : Closes g n) whe
         told = acted c.clock count k b.action ∷ [];
         last = c;
         is = runs.stops c count k b.action trouble (moment_on known g n closes d c m (Actions count) moment) b.is (subst (Next (closed g n) c b.action) ends s.is);
-        same = (same_acted known g n closes (paired.here known g n closes d c m) c.clock d.system.clock count k a b.action m.both.clock b.same, tt);
+        same = (same_acted known g n closes (parts.here known g n closes d c m) c.clock d.system.clock count k a b.action m.both.clock b.same, tt);
         both = m;
       }
   reach_on _ _ _ _ (driven_runs.passes d next end time events standing moment step more) c m =
@@ -94,7 +94,7 @@ module _ (known : Known) (g : Driving) (n : ModelTree) (closes : Closes g n) whe
         events = acted d.system.clock count k a.action ∷ rest.events;
         end = rest.end;
         is = driven_runs.acts d on.driven rest.end count k a.action rest.events standing (moment_back known g n closes d c m (Actions count) moment) a.is (subst (DrivenNext g d a.action) on.is s.is) rest.is;
-        same = (same_acted known g n closes (paired.here known g n closes d c m) c.clock d.system.clock count k a.action b m.both.clock a.same, rest.same);
+        same = (same_acted known g n closes (parts.here known g n closes d c m) c.clock d.system.clock count k a.action b m.both.clock a.same, rest.same);
         both = rest.both;
       }
   reach_back _ _ _ _ (runs.stops c count k b trouble moment choice step) d m =
@@ -105,7 +105,7 @@ module _ (known : Known) (g : Driving) (n : ModelTree) (closes : Closes g n) whe
         events = acted d.system.clock count k a.action ∷ [];
         end = d;
         is = driven_runs.stops d count k a.action trouble (moment_back known g n closes d c m (Actions count) moment) a.is (subst (DrivenNext g d a.action) ends s.is);
-        same = (same_acted known g n closes (paired.here known g n closes d c m) c.clock d.system.clock count k a.action b m.both.clock a.same, tt);
+        same = (same_acted known g n closes (parts.here known g n closes d c m) c.clock d.system.clock count k a.action b m.both.clock a.same, tt);
         both = m;
       }
   reach_back _ _ _ _ (runs.passes c next last time told standing moment step more) d m =
