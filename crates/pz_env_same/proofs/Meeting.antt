@@ -1,6 +1,6 @@
 -- A process that stands in two configurations and sees the same there: what the rules say of its parts in the
 -- one they say in the other.
-use Rattle.std.proofs.Common.{◌≡◌, ℕ, Bool, true, List, length, Result, Ok, Err, ◌∙◌}
+use Rattle.std.proofs.Common.{ℕ, Bool, true, List, Result, Ok, Err, ◌∙◌}
 use Rattle.pz_syntax.specs.declared.tokens.Pos.{Pos}
 use Rattle.pz_syntax.specs.Classes.{ModelTree}
 use Rattle.pz_copy.specs.Parcels.{ParcelView}

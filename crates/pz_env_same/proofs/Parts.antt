@@ -24,7 +24,7 @@ use Rattle.pz_rules.specs.Messages as messages
 use Rattle.pz_rules.specs.Messages.{bound, Sends, Judges}
 use Rattle.pz_rules.specs.Delays as delays
 use Rattle.pz_rules.specs.Delays.{Delays}
-use Rattle.pz_env_same.specs.SameRules.{SameData, SameClass, seen_in, SeesTheSame}
+use Rattle.pz_env_same.specs.SameRules.{SameClass, seen_in, SeesTheSame}
 use Rattle.pz_env_same.proofs.Evaluations.{same_data_back, finds, finds_all}
 
 pub same_class_back : (m n : ModelTree) (class : ℕ) → SameClass m n class → SameClass n m class

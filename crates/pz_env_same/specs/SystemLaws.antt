@@ -1,6 +1,6 @@
 -- Laws of configurations: n has the rules of the model of the setting, and one process more; and e is c with
 -- one more process p. What the rules say of the processes of c is so in both.
-use Rattle.std.specs.Prelude.{◌≡◌, ◌↔◌, ℕ, Bool, List, [], ◌∷◌, ◌++◌, length, Some, Result, Ok, Err, slice_get}
+use Rattle.std.specs.Prelude.{◌≡◌, ◌↔◌, ℕ, Bool, List, Some, Result, slice_get}
 use Rattle.pz_syntax.specs.declared.tokens.Pos.{Pos}
 use Rattle.pz_syntax.specs.Classes.{ModelTree}
 use Rattle.pz_bind_levels.specs.Places.{Address}
@@ -19,8 +19,8 @@ use Rattle.pz_rules.specs.Delays.{Passes}
 use Rattle.pz_rules.specs.Configurations.{Config, IsWhole, Stands}
 use Rattle.pz_rules.specs.Starting.{StartsAs, IsStart}
 use Rattle.pz_rules.specs.Offers.{PartAt, IsPair, IsJudged, Offers}
-use Rattle.pz_rules.specs.Steps.{Acts, Next, PassesTo, with_process, with_both}
-use Rattle.pz_rules.specs.Moments.{IsFirstHigh, Source, part, pair, Troubles, IsLeft, AllDone}
+use Rattle.pz_rules.specs.Steps.{Acts, Next, PassesTo, with_process}
+use Rattle.pz_rules.specs.Moments.{IsFirstHigh, part, pair, Troubles, IsLeft, AllDone}
 use Rattle.pz_env_same.specs.SameRules.{SameRules, in_model, seen_in, SeesTheSame}
 use Rattle.pz_env_same.specs.OneMore.{OneMore, behind, result_behind, IsOf, number_of_more, IsActionOf}
 
