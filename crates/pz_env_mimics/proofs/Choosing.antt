@@ -54,7 +54,11 @@ module _ (known : Known) (g : Driving) (n : ModelTree) (closes : Closes g n) (po
       record {
         told = acted c.clock count number b.action ∷ rest.told;
         last = rest.last;
-        is = chosen.acts j c on.config rest.last k count number b.action rest.told ending (moment_on known g n closes d c m k moment) (same_decided j c.clock d.system.clock k (takes count number) m.both.clock decides) b.is (subst (Next (closed g n) c b.action) on.is s.is) rest.is;
+        is =
+            chosen.acts j c on.config rest.last k count number b.action rest.told ending
+            (moment_on known g n closes d c m k moment)
+            (same_decided j c.clock d.system.clock k (takes count number) m.both.clock decides) b.is
+            (subst (Next (closed g n) c b.action) on.is s.is) rest.is;
         same = (same_acted known g n closes (parts.here known g n closes d c m) c.clock d.system.clock count number a b.action m.both.clock b.same, rest.same);
         both = rest.both;
       }
@@ -65,7 +69,11 @@ module _ (known : Known) (g : Driving) (n : ModelTree) (closes : Closes g n) (po
       record {
         told = acted c.clock count number b.action ∷ [];
         last = c;
-        is = chosen.stops j c k count number b.action trouble (moment_on known g n closes d c m k moment) (same_decided j c.clock d.system.clock k (takes count number) m.both.clock decides) b.is (subst (Next (closed g n) c b.action) ends s.is);
+        is =
+            chosen.stops j c k count number b.action trouble
+            (moment_on known g n closes d c m k moment)
+            (same_decided j c.clock d.system.clock k (takes count number) m.both.clock decides) b.is
+            (subst (Next (closed g n) c b.action) ends s.is);
         same = (same_acted known g n closes (parts.here known g n closes d c m) c.clock d.system.clock count number a b.action m.both.clock b.same, tt);
         both = m;
       }
@@ -75,7 +83,10 @@ module _ (known : Known) (g : Driving) (n : ModelTree) (closes : Closes g n) (po
       record {
         told = passed c.clock time ∷ rest.told;
         last = rest.last;
-        is = chosen.passes j c on.after rest.last k time rest.told ending (moment_on known g n closes d c m k moment) (same_decided j c.clock d.system.clock k (waits time) m.both.clock decides) on.is rest.is;
+        is =
+            chosen.passes j c on.after rest.last k time rest.told ending
+            (moment_on known g n closes d c m k moment)
+            (same_decided j c.clock d.system.clock k (waits time) m.both.clock decides) on.is rest.is;
         same = (same_passed known g n closes c.clock d.system.clock time m.both.clock, rest.same);
         both = rest.both;
       }
@@ -93,7 +104,10 @@ module _ (known : Known) (g : Driving) (n : ModelTree) (closes : Closes g n) (po
       record {
         events = [];
         end = d;
-        is = driven_chosen.ends j d k ending (moment_back known g n closes d c m k moment) (same_decided j d.system.clock c.clock k (stops_with ending) (sym m.both.clock) decides);
+        is =
+            driven_chosen.ends j d k ending
+            (moment_back known g n closes d c m k moment)
+            (same_decided j d.system.clock c.clock k (stops_with ending) (sym m.both.clock) decides);
         same = tt;
         both = m;
       }
@@ -105,7 +119,11 @@ module _ (known : Known) (g : Driving) (n : ModelTree) (closes : Closes g n) (po
       record {
         events = acted d.system.clock count number a.action ∷ rest.events;
         end = rest.end;
-        is = driven_chosen.acts j d on.driven rest.end k count number a.action rest.events ending (moment_back known g n closes d c m k moment) (same_decided j d.system.clock c.clock k (takes count number) (sym m.both.clock) decides) a.is (subst (DrivenNext g d a.action) on.is s.is) rest.is;
+        is =
+            driven_chosen.acts j d on.driven rest.end k count number a.action rest.events ending
+            (moment_back known g n closes d c m k moment)
+            (same_decided j d.system.clock c.clock k (takes count number) (sym m.both.clock) decides) a.is
+            (subst (DrivenNext g d a.action) on.is s.is) rest.is;
         same = (same_acted known g n closes (parts.here known g n closes d c m) c.clock d.system.clock count number a.action b m.both.clock a.same, rest.same);
         both = rest.both;
       }
@@ -116,7 +134,11 @@ module _ (known : Known) (g : Driving) (n : ModelTree) (closes : Closes g n) (po
       record {
         events = acted d.system.clock count number a.action ∷ [];
         end = d;
-        is = driven_chosen.stops j d k count number a.action trouble (moment_back known g n closes d c m k moment) (same_decided j d.system.clock c.clock k (takes count number) (sym m.both.clock) decides) a.is (subst (DrivenNext g d a.action) ends s.is);
+        is =
+            driven_chosen.stops j d k count number a.action trouble
+            (moment_back known g n closes d c m k moment)
+            (same_decided j d.system.clock c.clock k (takes count number) (sym m.both.clock) decides) a.is
+            (subst (DrivenNext g d a.action) ends s.is);
         same = (same_acted known g n closes (parts.here known g n closes d c m) c.clock d.system.clock count number a.action b m.both.clock a.same, tt);
         both = m;
       }
@@ -126,7 +148,10 @@ module _ (known : Known) (g : Driving) (n : ModelTree) (closes : Closes g n) (po
       record {
         events = passed d.system.clock time ∷ rest.events;
         end = rest.end;
-        is = driven_chosen.passes j d on.next rest.end k time rest.events ending (moment_back known g n closes d c m k moment) (same_decided j d.system.clock c.clock k (waits time) (sym m.both.clock) decides) on.is rest.is;
+        is =
+            driven_chosen.passes j d on.next rest.end k time rest.events ending
+            (moment_back known g n closes d c m k moment)
+            (same_decided j d.system.clock c.clock k (waits time) (sym m.both.clock) decides) on.is rest.is;
         same = (same_passed known g n closes c.clock d.system.clock time m.both.clock, rest.same);
         both = rest.both;
       }

@@ -62,6 +62,17 @@ module _ (known : Known) (g : Driving) (n : ModelTree) (closes : Closes g n) whe
     abbrev Turns : Doing → ℕ → Result Process Trouble → Type 0
     Turns = Becomes port Fits_line
 
+    -- a process has taken what the environment gives, or has given what it takes, and it goes on to these lines
+    abbrev given : End → List Line → Process → Driven
+    given r rest q = both_next d r.process q (record { doing = begins rest; objects = d.environment.objects })
+
+    abbrev got : End → List Line → Process → ℕ → Driven
+    got s rest p k = both_next d s.process p (record { doing = begins rest; objects = k })
+
+    -- the objects that it has then
+    abbrev total : ParcelView → ℕ
+    total parcel = d.environment.objects + length parcel.objects
+
     -- of an action of the system
     pub system_next : (r : Result Config Trouble) → ((k : Config) → r ≡ Ok k → IsWhole g.setting k)
         → SameNext (and_then r (λ k. Ok (in_system d k))) (result_behind r m.more)
@@ -88,18 +99,19 @@ module _ (known : Known) (g : Driving) (n : ModelTree) (closes : Closes g n) whe
     -- of a send of the environment
     pub give_next : (r : End) (rest : List Line) (sent taken : Result Process Trouble) → r.process < env
         → Turns (begins rest) (length m.more.state.objects) sent
-        → SameNext (and_then taken (λ q. Ok (both_next d r.process q (record { doing = begins rest; objects = d.environment.objects }))))
+        → SameNext (and_then taken (λ q. Ok (given r rest q)))
         (and_then sent (λ p. and_then taken (λ q. Ok (with_both c env_there r p q))))
     give_next r rest sent taken low is =
-        subst (λ (s : Result Process Trouble). SameNext (and_then taken (λ q. Ok (both_next d r.process q (record { doing = begins rest; objects = d.environment.objects })))) (and_then s (λ p. and_then taken (λ q. Ok (with_both c env_there r p q)))))
+        subst
+        (λ (s : Result Process Trouble). SameNext (and_then taken (λ q. Ok (given r rest q))) (and_then s (λ p. and_then taken (λ q. Ok (with_both c env_there r p q)))))
         (sym is.is)
         (by taken)
       where
         by : (t : Result Process Trouble)
-            → SameNext (and_then t (λ q. Ok (both_next d r.process q (record { doing = begins rest; objects = d.environment.objects })))) (and_then t (λ q. Ok (with_both c env_there r is.process q)))
+            → SameNext (and_then t (λ q. Ok (given r rest q))) (and_then t (λ q. Ok (with_both c env_there r is.process q)))
         by (Ok q) =
             let one = known.more_becomes g.setting d.system c m.more is.process m.both in
-            goes (both_next d r.process q (record { doing = begins rest; objects = d.environment.objects })) (with_both c env_there r is.process q) (record {
+            goes (given r rest q) (with_both c env_there r is.process q) (record {
               more = is.process;
               both = known.becomes g.setting d.system (with_process c env is.process) is.process r.process q low one;
               does = is.does;
@@ -110,33 +122,42 @@ module _ (known : Known) (g : Driving) (n : ModelTree) (closes : Closes g n) whe
     -- of a receive of the environment
     pub get_next : (s : End) (x : Line) (rest : List Line) (parcel : ParcelView) (sent taken : Result Process Trouble) → s.process < env
         → TakenOr seen port Fits_line x rest parcel taken
-        → SameNext (and_then sent (λ p. and_then (stored g d x parcel) (λ k. Ok (both_next d s.process p (record { doing = begins rest; objects = k })))))
+        → SameNext (and_then sent (λ p. and_then (stored g d x parcel) (λ k. Ok (got s rest p k))))
         (and_then sent (λ p. and_then taken (λ q. Ok (with_both c s env_there p q))))
     get_next s x rest parcel (Err t) taken low is = fails t
     get_next s x rest parcel (Ok p) taken low (fits_in room is) =
-        let count : d.environment.objects + length parcel.objects ≡ length m.more.state.objects + length parcel.objects = ap (λ (k : ℕ). k + length parcel.objects) (sym m.has) in
-        let roomy : nat_le (d.environment.objects + length parcel.objects) object_limit ≡ true = le-leb (d.environment.objects + length parcel.objects) object_limit (omega (arith, count, room)) in
-        let is_stored : stored g d x parcel ≡ Ok (d.environment.objects + length parcel.objects) =
-        ap (λ (b : Bool). if b then Ok (d.environment.objects + length parcel.objects) else fault StoreFull env (at_line x)) roomy
+        let count : total parcel ≡ length m.more.state.objects + length parcel.objects = ap (λ (k : ℕ). k + length parcel.objects) (sym m.has) in
+        let roomy : nat_le (total parcel) object_limit ≡ true = le-leb (total parcel) object_limit (omega (arith, count, room)) in
+        let is_stored : stored g d x parcel ≡ Ok (total parcel) =
+        ap (λ (b : Bool). if b then Ok (total parcel) else fault StoreFull env (at_line x)) roomy
         in
         let one = known.becomes g.setting d.system c m.more s.process p low m.both in
-        subst (λ (k : Result ℕ Trouble). SameNext (and_then k (λ k. Ok (both_next d s.process p (record { doing = begins rest; objects = k })))) (and_then taken (λ q. Ok (with_both c s env_there p q)))) (sym is_stored)
-        (subst (λ (t : Result Process Trouble). SameNext (Ok (both_next d s.process p (record { doing = begins rest; objects = d.environment.objects + length parcel.objects }))) (and_then t (λ q. Ok (with_both c s env_there p q)))) (sym is.is)
-        (goes (both_next d s.process p (record { doing = begins rest; objects = d.environment.objects + length parcel.objects })) (with_both c s env_there p is.process) (record {
+        subst
+        (λ (k : Result ℕ Trouble). SameNext (and_then k (λ k. Ok (got s rest p k))) (and_then taken (λ q. Ok (with_both c s env_there p q))))
+        (sym is_stored)
+        (subst
+        (λ (t : Result Process Trouble). SameNext (Ok (got s rest p (total parcel))) (and_then t (λ q. Ok (with_both c s env_there p q))))
+        (sym is.is)
+        (goes (got s rest p (total parcel)) (with_both c s env_there p is.process) (record {
           more = is.process;
           both = known.more_becomes g.setting (with_process d.system s.process p) (with_process c s.process p) m.more is.process one;
           does = is.does;
           has = is.has ∙ sym count;
         })))
     get_next s x rest parcel (Ok p) taken low (too_full unfit is) =
-        let count : d.environment.objects + length parcel.objects ≡ length m.more.state.objects + length parcel.objects = ap (λ (k : ℕ). k + length parcel.objects) (sym m.has) in
-        let full : nat_le (d.environment.objects + length parcel.objects) object_limit ≡ false = never (nat_le (d.environment.objects + length parcel.objects) object_limit) (λ e. too_many count unfit (leb-true (d.environment.objects + length parcel.objects) object_limit e)) in
+        let count : total parcel ≡ length m.more.state.objects + length parcel.objects = ap (λ (k : ℕ). k + length parcel.objects) (sym m.has) in
+        let full : nat_le (total parcel) object_limit ≡ false = never (nat_le (total parcel) object_limit) (λ e. too_many count unfit (leb-true (total parcel) object_limit e)) in
         let is_stored : stored g d x parcel ≡ fault StoreFull env (at_line x) =
-        ap (λ (b : Bool). if b then Ok (d.environment.objects + length parcel.objects) else fault StoreFull env (at_line x)) full
+        ap (λ (b : Bool). if b then Ok (total parcel) else fault StoreFull env (at_line x)) full
         in
-        subst (λ (k : Result ℕ Trouble). SameNext (and_then k (λ k. Ok (both_next d s.process p (record { doing = begins rest; objects = k })))) (and_then taken (λ q. Ok (with_both c s env_there p q)))) (sym is_stored)
-        (subst (λ (t : Result Process Trouble). SameNext (fault StoreFull env (at_line x)) (and_then t (λ q. Ok (with_both c s env_there p q)))) (sym is) (fails (Fault StoreFull env (at_line x))))
+        subst
+        (λ (k : Result ℕ Trouble). SameNext (and_then k (λ k. Ok (got s rest p k))) (and_then taken (λ q. Ok (with_both c s env_there p q))))
+        (sym is_stored)
+        (subst
+        (λ (t : Result Process Trouble). SameNext (fault StoreFull env (at_line x)) (and_then t (λ q. Ok (with_both c s env_there p q))))
+        (sym is)
+        (fails (Fault StoreFull env (at_line x))))
       where
-        too_many : d.environment.objects + length parcel.objects ≡ length m.more.state.objects + length parcel.objects → ¬ Fits seen parcel
-            → d.environment.objects + length parcel.objects ≤ object_limit → ⊥
+        too_many : total parcel ≡ length m.more.state.objects + length parcel.objects → ¬ Fits seen parcel
+            → total parcel ≤ object_limit → ⊥
         too_many count unfit fits = unfit (omega (arith, count, fits))

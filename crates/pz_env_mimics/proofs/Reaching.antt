@@ -49,7 +49,10 @@ module _ (known : Known) (g : Driving) (n : ModelTree) (closes : Closes g n) whe
       record {
         told = acted c.clock count k b.action ∷ rest.told;
         last = rest.last;
-        is = runs.acts c on.config rest.last count k b.action rest.told standing (moment_on known g n closes d c m (Actions count) moment) b.is (subst (Next (closed g n) c b.action) on.is s.is) rest.is;
+        is =
+            runs.acts c on.config rest.last count k b.action rest.told standing
+            (moment_on known g n closes d c m (Actions count) moment) b.is
+            (subst (Next (closed g n) c b.action) on.is s.is) rest.is;
         same = (same_acted known g n closes (parts.here known g n closes d c m) c.clock d.system.clock count k a b.action m.both.clock b.same, rest.same);
         both = rest.both;
       }
@@ -93,7 +96,10 @@ module _ (known : Known) (g : Driving) (n : ModelTree) (closes : Closes g n) whe
       record {
         events = acted d.system.clock count k a.action ∷ rest.events;
         end = rest.end;
-        is = driven_runs.acts d on.driven rest.end count k a.action rest.events standing (moment_back known g n closes d c m (Actions count) moment) a.is (subst (DrivenNext g d a.action) on.is s.is) rest.is;
+        is =
+            driven_runs.acts d on.driven rest.end count k a.action rest.events standing
+            (moment_back known g n closes d c m (Actions count) moment) a.is (subst (DrivenNext g d a.action) on.is s.is)
+            rest.is;
         same = (same_acted known g n closes (parts.here known g n closes d c m) c.clock d.system.clock count k a.action b m.both.clock a.same, rest.same);
         both = rest.both;
       }
@@ -104,7 +110,9 @@ module _ (known : Known) (g : Driving) (n : ModelTree) (closes : Closes g n) whe
       record {
         events = acted d.system.clock count k a.action ∷ [];
         end = d;
-        is = driven_runs.stops d count k a.action trouble (moment_back known g n closes d c m (Actions count) moment) a.is (subst (DrivenNext g d a.action) ends s.is);
+        is =
+            driven_runs.stops d count k a.action trouble
+            (moment_back known g n closes d c m (Actions count) moment) a.is (subst (DrivenNext g d a.action) ends s.is);
         same = (same_acted known g n closes (parts.here known g n closes d c m) c.clock d.system.clock count k a.action b m.both.clock a.same, tt);
         both = m;
       }
