@@ -116,7 +116,7 @@ module _ (known : Known) (g : Driving) (n : ModelTree) (closes : Closes g n) whe
         → Turns (offers x rest) (length m.more.state.objects) result
     expired at result is there left x rest waits_so =
         let e = env_acts Performs at result is there in
-        let h = moving.performs_only seen closes.limits.units closes.limits.depth closes.limits.height port Fits_line (fit_plain known g n closes) d.environment.doing m.more.term at.place e.frame e.part e.pos e.left result e.is_part e.does_so e.leaves in
+        let h = moving.performs_only seen closes.limits port Fits_line (fit_plain known g n closes) d.environment.doing m.more.term at.place e.frame e.part e.pos e.left result e.is_part e.does_so e.leaves in
         let same = waits_same h.left left h.line x h.rest rest (sym h.is ∙ waits_so) in
         subst (λ (k : Doing). Turns k (length m.more.state.objects) result) (ap (λ (y : Line). offers y h.rest) same.0 ∙ ap (λ (y : List Line). offers x y) same.1) h.becomes
       where
@@ -129,7 +129,7 @@ module _ (known : Known) (g : Driving) (n : ModelTree) (closes : Closes g n) whe
         → Turns (begins rest) (length m.more.state.objects) result
     gave at parcel result is there x rest offers_so =
         let e = env_acts (λ a f. Hands a f parcel) at result is there in
-        let h = moving.hands_only seen closes.limits.units closes.limits.depth closes.limits.height port Fits_line (fit_plain known g n closes) d.environment.doing m.more.term at.place e.frame e.part parcel e.pos e.left result e.is_part e.does_so e.leaves in
+        let h = moving.hands_only seen closes.limits port Fits_line (fit_plain known g n closes) d.environment.doing m.more.term at.place e.frame e.part parcel e.pos e.left result e.is_part e.does_so e.leaves in
         let same = offers_same h.line x h.rest rest (sym h.is ∙ offers_so) in
         subst (λ (k : List Line). Turns (begins k) (length m.more.state.objects) result) same.1 h.becomes
 
@@ -139,7 +139,7 @@ module _ (known : Known) (g : Driving) (n : ModelTree) (closes : Closes g n) whe
         → TakenOr seen port Fits_line x rest parcel result
     took at parcel result is there x rest offers_so =
         let e = env_acts (λ a f. Takes a f parcel) at result is there in
-        let h = moving.takes_only seen closes.limits.units closes.limits.depth closes.limits.height port Fits_line (fit_plain known g n closes) d.environment.doing m.more.term at.place e.frame e.part parcel e.pos e.left result e.is_part e.does_so e.leaves in
+        let h = moving.takes_only seen closes.limits port Fits_line (fit_plain known g n closes) d.environment.doing m.more.term at.place e.frame e.part parcel e.pos e.left result e.is_part e.does_so e.leaves in
         let same = offers_same h.line x h.rest rest (sym h.is ∙ offers_so) in
         subst (λ (k : List Line). TakenOr seen port Fits_line x k parcel result) same.1
         (subst (λ (k : Line). TakenOr seen port Fits_line k h.rest parcel result) same.0 h.taken)
@@ -148,7 +148,7 @@ module _ (known : Known) (g : Driving) (n : ModelTree) (closes : Closes g n) whe
     pub expires_so : (left : ℕ) (x : Line) (rest : List Line) → d.environment.doing ≡ waits left x rest
         → (r : Result Process Trouble) × Acts (closed g n) c Performs env_there r
     expires_so left x rest is =
-        let h = moving.performs_there seen closes.limits.units closes.limits.depth closes.limits.height port Fits_line (fit_plain known g n closes) left x rest m.more.term (subst (λ (k : Doing). IsDoing port Fits_line k m.more.term) is m.does) in
+        let h = moving.performs_there seen closes.limits port Fits_line (fit_plain known g n closes) left x rest m.more.term (subst (λ (k : Doing). IsDoing port Fits_line k m.more.term) is m.does) in
         let place : 0 ∷ 0 ∷ [] ≡ here = sym (ap place_of is) in
         let r = and_then (Ok (done_in m.more.state)) (settled seen (at_line x) m.more.term here) in
         (r, acts_there Performs here h.part (at_line x) (Ok (done_in m.more.state)) (subst (λ (k : Place). IsActive seen m.more.term k 1 h.part) place h.active) h.performs)
@@ -156,7 +156,7 @@ module _ (known : Known) (g : Driving) (n : ModelTree) (closes : Closes g n) whe
     exchange_there : (x : Line) (rest : List Line) → d.environment.doing ≡ offers x rest
         → IsActive seen m.more.term here 1 (leaf (exchange (port x) x x.entry.transfer))
     exchange_there x rest is =
-        let h = offers_there seen closes.limits.units closes.limits.depth port Fits_line (fit_plain known g n closes) x rest m.more.term (subst (λ (k : Doing). IsDoing port Fits_line k m.more.term) is m.does) in
+        let h = offers_there seen closes.limits port Fits_line (fit_plain known g n closes) x rest m.more.term (subst (λ (k : Doing). IsDoing port Fits_line k m.more.term) is m.does) in
         subst (λ (k : Place). IsActive seen m.more.term k 1 (leaf (exchange (port x) x x.entry.transfer))) (sym (ap place_of is)) h.active
 
     pub gives_so : (x : Line) (rest : List Line) (values : List Value) → Gives g d x rest values
@@ -164,10 +164,10 @@ module _ (known : Known) (g : Driving) (n : ModelTree) (closes : Closes g n) whe
     gives_so x rest values is =
         let fit = (parts.offered known g n closes d c m x rest is.doing).fit in
         let r = and_then (Ok (done_in m.more.state)) (settled seen (at_line x) m.more.term here) in
-        (r, acts_there (λ a f. Hands a f (plain g values)) here (leaf (exchange (port x) x x.entry.transfer)) (at_line x) (Ok (done_in m.more.state)) (exchange_there x rest is.doing) (moving.hands_there seen closes.limits.units closes.limits.depth closes.limits.height port Fits_line (fit_plain known g n closes) x values (plain g values) fit is.sends is.paid refl))
+        (r, acts_there (λ a f. Hands a f (plain g values)) here (leaf (exchange (port x) x x.entry.transfer)) (at_line x) (Ok (done_in m.more.state)) (exchange_there x rest is.doing) (moving.hands_there seen closes.limits port Fits_line (fit_plain known g n closes) x values (plain g values) fit is.sends is.paid refl))
 
     pub takes_so : (x : Line) (rest : List Line) (count : ℕ) (parcel : ParcelView) → Gets g d x rest count
         → (r : Result Process Trouble) × Acts (closed g n) c (λ a f. Takes a f parcel) env_there r
     takes_so x rest count parcel is =
-        let h = moving.takes_there seen closes.limits.units closes.limits.depth closes.limits.height port Fits_line (fit_plain known g n closes) x count parcel is.receives in
+        let h = moving.takes_there seen closes.limits port Fits_line (fit_plain known g n closes) x count parcel is.receives in
         (and_then h.0 (settled seen (at_line x) m.more.term here), acts_there (λ a f. Takes a f parcel) here (leaf (exchange (port x) x x.entry.transfer)) (at_line x) h.0 (exchange_there x rest is.doing) h.1)

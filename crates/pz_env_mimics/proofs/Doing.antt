@@ -20,6 +20,7 @@ use Rattle.pz_env_script.specs.declared.entry.Transfer.TheVariants.{Send, Receiv
 use Rattle.pz_env_script.specs.Entries.{values_in}
 use Rattle.pz_env_rules.specs.Environment.{Line, at_line, Doing, waits, offers}
 use Rattle.pz_env_mimics.specs.Environments.{exchange, IsPlain}
+use Rattle.pz_env_mimics.specs.Closing.{MayDrive}
 use Rattle.pz_env_mimics.proofs.Literals.{IsConstant}
 use Rattle.pz_env_mimics.proofs.Environment.{behind, IsDoing, waiting_for, offering_it, place_of, active_offering, active_in_sequence, PartIs, around_it, ended, delayed, exchanges}
 use Rattle.pz_env_mimics.proofs.Speaking as speaking
@@ -78,7 +79,7 @@ pub record HasLeft (doing : Doing) (left : ℕ) : Type 0 where
   pub rest : List Line
   pub is : doing ≡ waits left line rest
 
-module _ (a : Context) (enough : 1 ≤ a.setting.limits.units) (deep : 1 ≤ a.setting.limits.depth) (port : Line → ℕ) (Fit : Line → Type 0) (plain : (x : Line) → Fit x → IsPlain x) where
+module _ (a : Context) (may : MayDrive a.setting.limits) (port : Line → ℕ) (Fit : Line → Type 0) (plain : (x : Line) → Fit x → IsPlain x) where
   constants : (x : Line) → Fit x → All IsConstant (values_in x.entry.transfer)
   constants x fit = (plain x fit).values
 
@@ -93,10 +94,10 @@ module _ (a : Context) (enough : 1 ≤ a.setting.limits.units) (deep : 1 ≤ a.s
   can_only _ _ _ _ _ kind at (around_it doing whole place g part around) can = absurd (around_cannot a g part kind at around can)
   can_only _ _ _ _ _ kind at (ended whole place g) can = absurd (done_cannot a g kind at can)
   can_only _ _ _ _ _ kind at (delayed left x rest t fit fits is) can =
-      let h = speaking.waiting_can a enough deep 1 x left t kind at (plain x fit) is can in
+      let h = speaking.waiting_can a may 1 x left t kind at (plain x fit) is can in
       record { line = x; rest = rest; is = ap (λ (n : ℕ). waits n x rest) h.0; there = refl; expires = h.1; at_it = h.2 }
   can_only _ _ _ _ _ kind at (exchanges x rest fit fits) can =
-      absurd (speaking.exchange_cannot a enough deep 1 (port x) x x.entry.transfer kind at can)
+      absurd (speaking.exchange_cannot a may 1 (port x) x x.entry.transfer kind at can)
 
   pub sends_only : (doing : Doing) (whole : Term) (place : Place) (g : ℕ) (part : Term) (at : Pos) (number : ℕ) (message : List ℕ) (parcel : ParcelView)
       → PartIs port Fit doing whole place g part → Sends a g part at number message parcel
@@ -106,9 +107,9 @@ module _ (a : Context) (enough : 1 ≤ a.setting.limits.units) (deep : 1 ≤ a.s
   sends_only _ _ _ _ _ at number message parcel (ended whole place g) is =
       absurd (done_never_sends a g at number message parcel is)
   sends_only _ _ _ _ _ at number message parcel (delayed left x rest t fit fits waiting_so) is =
-      absurd (speaking.waiting_never_sends a enough deep 1 x left t at number message parcel waiting_so is)
+      absurd (speaking.waiting_never_sends a may 1 x left t at number message parcel waiting_so is)
   sends_only _ _ _ _ _ at number message parcel (exchanges x rest fit fits) is =
-      let h = speaking.exchange_says a enough deep 1 (port x) x x.entry.transfer at number message parcel (constants x fit) is in
+      let h = speaking.exchange_says a may 1 (port x) x x.entry.transfer at number message parcel (constants x fit) is in
       record {
         line = x;
         rest = rest;
@@ -132,9 +133,9 @@ module _ (a : Context) (enough : 1 ≤ a.setting.limits.units) (deep : 1 ≤ a.s
   receives_only _ _ _ _ _ at number message count (ended whole place g) is =
       absurd (done_never_receives at number message count is)
   receives_only _ _ _ _ _ at number message count (delayed left x rest t fit fits waiting_so) is =
-      absurd (speaking.waiting_never_receives a enough deep x left t at number message count waiting_so is)
+      absurd (speaking.waiting_never_receives a may x left t at number message count waiting_so is)
   receives_only _ _ _ _ _ at number message count (exchanges x rest fit fits) is =
-      let h = speaking.exchange_hears a enough deep (port x) x x.entry.transfer at number message count is in
+      let h = speaking.exchange_hears a may (port x) x x.entry.transfer at number message count is in
       record {
         line = x;
         rest = rest;
@@ -153,9 +154,9 @@ module _ (a : Context) (enough : 1 ≤ a.setting.limits.units) (deep : 1 ≤ a.s
       absurd (around_never_judges a g parcel part verdict around is)
   judges_only _ _ _ _ _ parcel verdict (ended whole place g) is = absurd (done_never_judges a g parcel verdict is)
   judges_only _ _ _ _ _ parcel verdict (delayed left x rest t fit fits waiting_so) is =
-      absurd (speaking.waiting_never_judges a enough deep 1 x left parcel t verdict waiting_so is)
+      absurd (speaking.waiting_never_judges a may 1 x left parcel t verdict waiting_so is)
   judges_only _ _ _ _ _ parcel verdict (exchanges x rest fit fits) is =
-      speaking.exchange_judged a enough deep 1 (port x) x x.entry.transfer parcel verdict is
+      speaking.exchange_judged a may 1 (port x) x x.entry.transfer parcel verdict is
 
   pub asks_only : (doing : Doing) (whole : Term) (place : Place) (g : ℕ) (part : Term) (trouble : Trouble) → PartIs port Fit doing whole place g part
       → Asks a g part trouble → LacksUnits a.setting.limits.units a.process doing place trouble
@@ -163,9 +164,9 @@ module _ (a : Context) (enough : 1 ≤ a.setting.limits.units) (deep : 1 ≤ a.s
       absurd (around_never_asks a g part trouble around is)
   asks_only _ _ _ _ _ trouble (ended whole place g) is = absurd (done_never_asks a g trouble is)
   asks_only _ _ _ _ _ trouble (delayed left x rest t fit fits waiting_so) is =
-      absurd (speaking.waiting_never_asks a enough deep 1 x left t trouble (plain x fit) waiting_so is)
+      absurd (speaking.waiting_never_asks a may 1 x left t trouble (plain x fit) waiting_so is)
   asks_only _ _ _ _ _ trouble (exchanges x rest fit fits) is =
-      let h = speaking.exchange_lacks a enough deep 1 (port x) x x.entry.transfer trouble (constants x fit) is in
+      let h = speaking.exchange_lacks a may 1 (port x) x x.entry.transfer trouble (constants x fit) is in
       record { line = x; rest = rest; values = h.values; is = refl; there = refl; sends = h.sends; more = h.more; trouble_is = h.is }
 
   pub delays_only : (doing : Doing) (whole : Term) (place : Place) (g : ℕ) (part : Term) (left : ℕ) → PartIs port Fit doing whole place g part
@@ -174,9 +175,9 @@ module _ (a : Context) (enough : 1 ≤ a.setting.limits.units) (deep : 1 ≤ a.s
       absurd (around_never_delays a g part left around is)
   delays_only _ _ _ _ _ left (ended whole place g) is = absurd (done_never_delays a g left is)
   delays_only _ _ _ _ _ left (delayed before x rest t fit fits waiting) is =
-      record { line = x; rest = rest; is = ap (λ (n : ℕ). waits n x rest) (sym (speaking.waiting_left a enough deep 1 x before t left (plain x fit) waiting is)) }
+      record { line = x; rest = rest; is = ap (λ (n : ℕ). waits n x rest) (sym (speaking.waiting_left a may 1 x before t left (plain x fit) waiting is)) }
   delays_only _ _ _ _ _ left (exchanges x rest fit fits) is =
-      absurd (speaking.exchange_never_delays a enough deep 1 (port x) x x.entry.transfer left is)
+      absurd (speaking.exchange_never_delays a may 1 (port x) x x.entry.transfer left is)
 
   -- What it does it says
 
@@ -187,7 +188,7 @@ module _ (a : Context) (enough : 1 ≤ a.setting.limits.units) (deep : 1 ≤ a.s
 
   pub expires_there : (x : Line) (rest : List Line) (whole : Term) → IsDoing port Fit (waits 0 x rest) whole → Can_at whole (0 ∷ 0 ∷ []) Expire (at_line x)
   expires_there _ _ _ (waiting_for _ x rest t fit fits is) =
-      record { part = t; active = active_in_sequence a t (behind port x rest); can = speaking.waiting_acts a enough deep 1 x 0 t (plain x fit) is refl }
+      record { part = t; active = active_in_sequence a t (behind port x rest); can = speaking.waiting_acts a may 1 x 0 t (plain x fit) is refl }
 
   pub record Delays_at (whole : Term) (left : ℕ) : Type 0 where
     pub part : Term
@@ -196,7 +197,7 @@ module _ (a : Context) (enough : 1 ≤ a.setting.limits.units) (deep : 1 ≤ a.s
 
   pub delays_there : (left : ℕ) (x : Line) (rest : List Line) (whole : Term) → IsDoing port Fit (waits left x rest) whole → Delays_at whole left
   delays_there _ _ _ _ (waiting_for left x rest t fit fits is) =
-      record { part = t; active = active_in_sequence a t (behind port x rest); delays = speaking.waiting_delays a enough deep 1 x left t (plain x fit) is }
+      record { part = t; active = active_in_sequence a t (behind port x rest); delays = speaking.waiting_delays a may 1 x left t (plain x fit) is }
 
   -- a line that is offered, as a part
   pub record Offers_at (x : Line) (rest : List Line) (whole : Term) : Type 0 where
@@ -211,18 +212,18 @@ module _ (a : Context) (enough : 1 ≤ a.setting.limits.units) (deep : 1 ≤ a.s
   pub sends_there : (x : Line) (values : List Value) → Fit x → x.entry.transfer ≡ Send values → length values ≤ a.setting.limits.units
       → Sends a 1 (leaf (exchange (port x) x x.entry.transfer)) (at_line x) (port x) x.entry.message (record { values = values; objects = [] })
   sends_there x values fit is low =
-      speaking.exchange_sends a enough deep 1 (port x) x x.entry.transfer values is (sent_constants x values fit is) low
+      speaking.exchange_sends a may 1 (port x) x x.entry.transfer values is (sent_constants x values fit is) low
 
   pub receives_there : (x : Line) (count : ℕ) → x.entry.transfer ≡ Receive count
       → Receives (leaf (exchange (port x) x x.entry.transfer)) (at_line x) (port x) x.entry.message count
-  receives_there x count is = speaking.exchange_receives a enough deep (port x) x x.entry.transfer count is
+  receives_there x count is = speaking.exchange_receives a may (port x) x x.entry.transfer count is
 
   pub judges_there : (x : Line) (count : ℕ) (parcel : ParcelView) → x.entry.transfer ≡ Receive count
       → Judges a 1 parcel (leaf (exchange (port x) x x.entry.transfer)) (Ok true)
   judges_there x count parcel is =
-      speaking.exchange_judges a enough deep 1 (port x) x x.entry.transfer count parcel is
+      speaking.exchange_judges a may 1 (port x) x x.entry.transfer count parcel is
 
   pub asks_there : (x : Line) (values : List Value) → Fit x → x.entry.transfer ≡ Send values → a.setting.limits.units < length values
       → Asks a 1 (leaf (exchange (port x) x x.entry.transfer)) (Spent a.process (at_line x))
   asks_there x values fit is more =
-      speaking.exchange_asks a enough deep 1 (port x) x x.entry.transfer values is (sent_constants x values fit is) more
+      speaking.exchange_asks a may 1 (port x) x x.entry.transfer values is (sent_constants x values fit is) more

@@ -1,5 +1,5 @@
 -- What the environment becomes as time passes, as a process.
-use Rattle.std.proofs.Common.{◌≡◌, ◌≤◌, ◌-◌, ℕ, true, false, List, [], ◌∷◌, Ok, refl, sym, ap, subst}
+use Rattle.std.proofs.Common.{◌≡◌, ◌-◌, ℕ, true, false, List, [], ◌∷◌, Ok, refl, sym, ap, subst}
 use Rattle.pz_syntax.specs.declared.exprs.Literal.TheVariants as literal
 use Rattle.pz_syntax.specs.Expressions as expression
 use Rattle.pz_rules.specs.Terms.{Term, done, leaf, wait, sequence}
@@ -10,13 +10,14 @@ use Rattle.pz_env_script.specs.declared.entry.Transfer.{Transfer}
 use Rattle.pz_env_script.specs.declared.entry.Transfer.TheVariants.{Send, Receive}
 use Rattle.pz_env_rules.specs.Environment.{Line, at_line, wait_of, Doing, offers, later}
 use Rattle.pz_env_mimics.specs.Environments.{exchange, statements, IsPlain}
+use Rattle.pz_env_mimics.specs.Closing.{MayDrive}
 use Rattle.pz_env_mimics.proofs.Environment.{IsWaiting, not_begun, begun, behind, offering, called, IsDoing, finished, waiting_for, offering_it}
 use Rattle.pz_env_mimics.proofs.Speaking.{ok_same, plain_number, plain_number_only}
 
-module _ (a : Context) (enough : 1 ≤ a.setting.limits.units) (deep : 1 ≤ a.setting.limits.depth) (port : Line → ℕ) (Fit : Line → Type 0) (plain : (x : Line) → Fit x → IsPlain x) where
+module _ (a : Context) (may : MayDrive a.setting.limits) (port : Line → ℕ) (Fit : Line → Type 0) (plain : (x : Line) → Fit x → IsPlain x) where
   passes_waiting : (d f : ℕ) (x : Line) (left : ℕ) (t u : Term) → IsPlain x → IsWaiting x left t → Passes a d f t u → IsWaiting x (left - d) u
   passes_waiting d f x _ _ _ is not_begun (delays.begins _ at e left lasts) =
-      let same : left ≡ wait_of x.entry = ok_same left (wait_of x.entry) (plain_number_only a enough deep f x is (Ok left) lasts) in
+      let same : left ≡ wait_of x.entry = ok_same left (wait_of x.entry) (plain_number_only a may f x is (Ok left) lasts) in
       subst (λ (k : ℕ). IsWaiting x (wait_of x.entry - d) (wait (k - d) (at_line x))) (sym same) (begun (wait_of x.entry - d))
   passes_waiting d f x _ _ _ is not_begun (delays.stays _ s timeless) = absurd (false_apart timeless)
     where
@@ -47,7 +48,7 @@ module _ (a : Context) (enough : 1 ≤ a.setting.limits.units) (deep : 1 ≤ a.s
 
   waiting_passes : (d f : ℕ) (x : Line) (left : ℕ) (t : Term) → IsPlain x → IsWaiting x left t → (u : Term) × Passes a d f t u
   waiting_passes d f x _ _ is not_begun =
-      (wait (wait_of x.entry - d) (at_line x), delays.begins f (at_line x) (expression.literal (at_line x) (literal.Int x.entry.wait)) (wait_of x.entry) (plain_number a enough deep f x is))
+      (wait (wait_of x.entry - d) (at_line x), delays.begins f (at_line x) (expression.literal (at_line x) (literal.Int x.entry.wait)) (wait_of x.entry) (plain_number a may f x is))
   waiting_passes d f x _ _ is (begun left) =
       (wait (left - d) (at_line x), delays.goes_on f left (at_line x))
 

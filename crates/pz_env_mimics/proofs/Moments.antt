@@ -102,7 +102,7 @@ module _ (known : Known) (g : Driving) (n : ModelTree) (closes : Closes g n) (d 
       let at = parts.offered known g n closes d c m x rest is in (
         part env_there,
         parts (environment_end g) env_there of_env,
-        system.asked env_there seen 1 (leaf (exchange (port x) x x.entry.transfer)) (Spent env (at_line x)) at.part (asks_there seen closes.limits.units closes.limits.depth port Fits plain_lines x values at.fit sends more),
+        system.asked env_there seen 1 (leaf (exchange (port x) x x.entry.transfer)) (Spent env (at_line x)) at.part (asks_there seen closes.limits port Fits plain_lines x values at.fit sends more),
       )
 
   part_trouble_back : (at : End) (a : Context) (f : ℕ) (k : Term) (t : Trouble) → PartAt (closed g n) c at a f k → Asks a f k t
@@ -115,7 +115,7 @@ module _ (known : Known) (g : Driving) (n : ModelTree) (closes : Closes g n) (d 
   )
   part_trouble_back at a f k t there asks (inr is) =
       let e = mimics.env_part known g n closes d c m at a f k there is in
-      let h = asks_only seen closes.limits.units closes.limits.depth port Fits plain_lines d.environment.doing m.more.term at.place f k t e.is (subst (λ (b : Context). Asks b f k t) e.context asks) in (
+      let h = asks_only seen closes.limits port Fits plain_lines d.environment.doing m.more.term at.place f k t e.is (subst (λ (b : Context). Asks b f k t) e.context asks) in (
         part (environment_end g),
         subst (λ (b : End). SameSources env here [] (part b) (part (environment_end g))) (parts.end_is known g n closes d c m at is h.there) (parts env_there (environment_end g) of_env),
         subst (DrivenTroubles g d (part (environment_end g))) (sym h.trouble_is) (spent h.line h.rest h.values h.is h.sends h.more),
@@ -158,7 +158,7 @@ module _ (known : Known) (g : Driving) (n : ModelTree) (closes : Closes g n) (d 
   left_on _ (driven.of_process left is) =
       (known.left n g.setting d.system c m.more closes.rules m.both left).0 is
   left_on _ (driven.of_environment left x rest is) =
-      let e = delays_there seen closes.limits.units closes.limits.depth port Fits plain_lines left x rest m.more.term (subst (λ (k : Doing). IsDoing port Fits k m.more.term) is m.does) in
+      let e = delays_there seen closes.limits port Fits plain_lines left x rest m.more.term (subst (λ (k : Doing). IsDoing port Fits k m.more.term) is m.does) in
       record {
         at = record { process = env; place = 0 ∷ 0 ∷ [] };
         seen = seen;
@@ -176,7 +176,7 @@ module _ (known : Known) (g : Driving) (n : ModelTree) (closes : Closes g n) (d 
           driven.of_process left ((known.left n g.setting d.system c m.more closes.rules m.both left).1 is low)
       by (inr there) =
           let e = mimics.env_part known g n closes d c m is.at is.seen is.frame is.part is.active there in
-          let h = delays_only seen closes.limits.units closes.limits.depth port Fits plain_lines d.environment.doing m.more.term is.at.place is.frame is.part left e.is (subst (λ (b : Context). Delays b is.frame is.part left) e.context is.delays) in
+          let h = delays_only seen closes.limits port Fits plain_lines d.environment.doing m.more.term is.at.place is.frame is.part left e.is (subst (λ (b : Context). Delays b is.frame is.part left) e.context is.delays) in
           driven.of_environment left h.line h.rest h.is
 
   -- Terms that are too high

@@ -19,6 +19,7 @@ use Rattle.pz_env_script.specs.declared.entry.Transfer.TheVariants.{Send, Receiv
 use Rattle.pz_env_script.specs.Entries.{values_in}
 use Rattle.pz_env_rules.specs.Environment.{Line, at_line, Doing, waits, offers, begins}
 use Rattle.pz_env_mimics.specs.Environments.{exchange, IsPlain}
+use Rattle.pz_env_mimics.specs.Closing.{MayDrive}
 use Rattle.pz_env_mimics.proofs.Literals.{IsConstant}
 use Rattle.pz_env_mimics.proofs.Environment.{behind, offering, called, IsDoing, waiting_for, offering_it, place_of, active_in_sequence, PartIs, around_it, ended, delayed, exchanges}
 use Rattle.pz_env_mimics.proofs.Settling.{whole_then, begins_so, settled_wait, settled_exchange}
@@ -37,7 +38,7 @@ pub data TakenOr (a : Context) (port : Line → ℕ) (Fit : Line → Type 0) (x 
       → Becomes port Fit (begins rest) (length a.state.objects + length parcel.objects) result → TakenOr a port Fit x rest parcel result
   too_full : ¬ Fits a parcel → result ≡ fault StoreFull a.process (at_line x) → TakenOr a port Fit x rest parcel result
 
-module _ (a : Context) (enough : 1 ≤ a.setting.limits.units) (deep : 1 ≤ a.setting.limits.depth) (tall : 3 ≤ a.setting.limits.height) (port : Line → ℕ) (Fit : Line → Type 0) (plain : (x : Line) → Fit x → IsPlain x) where
+module _ (a : Context) (may : MayDrive a.setting.limits) (port : Line → ℕ) (Fit : Line → Type 0) (plain : (x : Line) → Fit x → IsPlain x) where
   -- by the end of a wait
   pub record Expired (doing : Doing) (at : Pos) (result : Result Process Trouble) : Type 0 where
     pub left : ℕ
@@ -66,7 +67,7 @@ module _ (a : Context) (enough : 1 ≤ a.setting.limits.units) (deep : 1 ≤ a.s
           is =
               leaves
               ∙ ap (λ (q : Result Process Trouble). and_then q (settled a at (called (sequence t (behind port x rest))) (0 ∷ 0 ∷ []))) h.1
-              ∙ settled_wait port a tall at t x rest a.state;
+              ∙ settled_wait port a may.height at t x rest a.state;
           does = offering_it x rest fit fits;
           has = refl;
         };
@@ -104,7 +105,7 @@ module _ (a : Context) (enough : 1 ≤ a.setting.limits.units) (deep : 1 ≤ a.s
   hands_only _ _ _ _ _ parcel at r result (delayed left x rest t fit fits waits_so) is leaves =
       absurd (waiting_never_hands a 1 parcel x left t at r waits_so is)
   hands_only _ _ _ _ _ parcel at r result (exchanges x rest fit fits) is leaves =
-      let h = exchange_hands a deep 1 (port x) x parcel x.entry.transfer at r (plain x fit).values is in
+      let h = exchange_hands a may.depth 1 (port x) x parcel x.entry.transfer at r (plain x fit).values is in
       record {
         line = x;
         rest = rest;
@@ -118,7 +119,7 @@ module _ (a : Context) (enough : 1 ≤ a.setting.limits.units) (deep : 1 ≤ a.s
           is =
               leaves
               ∙ ap (λ (q : Result Process Trouble). and_then q (settled a at (called (offering port x rest)) (place_of (offers x rest)))) h.leaves
-              ∙ settled_exchange port a tall at x rest a.state;
+              ∙ settled_exchange port a may.height at x rest a.state;
           does = begins_so port Fit rest fits;
           has = refl;
         };
@@ -128,7 +129,7 @@ module _ (a : Context) (enough : 1 ≤ a.setting.limits.units) (deep : 1 ≤ a.s
       → length values ≤ a.setting.limits.units → parcel ≡ record { values = values; objects = [] }
       → Hands a 1 parcel (leaf (exchange (port x) x x.entry.transfer)) (at_line x) (Ok (done_in a.state))
   hands_there x values parcel fit is low parcel_is =
-      exchange_hands_there a deep 1 (port x) x parcel x.entry.transfer values is (subst (λ (q : Transfer). All IsConstant (values_in q)) is (plain x fit).values) low parcel_is
+      exchange_hands_there a may.depth 1 (port x) x parcel x.entry.transfer values is (subst (λ (q : Transfer). All IsConstant (values_in q)) is (plain x fit).values) low parcel_is
 
   -- by a receive
   pub record Took (doing : Doing) (parcel : ParcelView) (result : Result Process Trouble) : Type 0 where
@@ -144,7 +145,7 @@ module _ (a : Context) (enough : 1 ≤ a.setting.limits.units) (deep : 1 ≤ a.s
   took x rest at parcel _ result fits (taken s room count) leaves =
       fits_in room (record {
         process = swept (left_by s (whole_then port rest));
-        is = leaves ∙ settled_exchange port a tall at x rest s;
+        is = leaves ∙ settled_exchange port a may.height at x rest s;
         does = begins_so port Fit rest fits;
         has = count;
       })

@@ -79,7 +79,7 @@ module _ (known : Known) (g : Driving) (n : ModelTree) (closes : Closes g n) (d 
         frame = 1;
         part = leaf (exchange (port x) x x.entry.transfer);
         active = (parts.offered known g n closes d c m x rest gets.doing).part;
-        judges = judges_there seen closes.limits.units closes.limits.depth port Fits (fit_plain known g n closes) x (length parcel.values) parcel gets.receives;
+        judges = judges_there seen closes.limits port Fits (fit_plain known g n closes) x (length parcel.values) parcel gets.receives;
       }
 
   pub judged_on : (w : ℕ) (s r u : End) (message : List ℕ) (parcel : ParcelView) (verdict : Result Bool Trouble)
@@ -101,7 +101,7 @@ module _ (known : Known) (g : Driving) (n : ModelTree) (closes : Closes g n) (d 
       let judges : Judges seen is.frame parcel is.part verdict =
       subst (λ (a : Context). Judges a is.frame parcel is.part verdict) e.context is.judges
       in
-      let says = judges_only seen closes.limits.units closes.limits.depth port Fits (fit_plain known g n closes) d.environment.doing m.more.term here is.frame is.part parcel verdict e.is judges in
+      let says = judges_only seen closes.limits port Fits (fit_plain known g n closes) d.environment.doing m.more.term here is.frame is.part parcel verdict e.is judges in
       subst (IsDrivenJudged g d (environment_end g) parcel) (sym says) (by_environment parcel)
 
   -- Offers
@@ -112,7 +112,7 @@ module _ (known : Known) (g : Driving) (n : ModelTree) (closes : Closes g n) (d 
       low : Offers g.setting d.system (Internal at kind pos) → at.process < env
       low (system.internal _ a f t _ _ part can) = parts.low_of known g n closes d c m at a f t part
   offer_on _ (expires x rest is) =
-      let e = expires_there seen closes.limits.units closes.limits.depth port Fits (fit_plain known g n closes) x rest m.more.term (subst (λ (k : Doing). IsDoing port Fits k m.more.term) is m.does) in
+      let e = expires_there seen closes.limits port Fits (fit_plain known g n closes) x rest m.more.term (subst (λ (k : Doing). IsDoing port Fits k m.more.term) is m.does) in
       let place : here ≡ 0 ∷ 0 ∷ [] = ap place_of is in (
         Internal env_there Expire (at_line x),
         internal (environment_end g) env_there Expire (at_line x) of_env,
@@ -136,7 +136,7 @@ module _ (known : Known) (g : Driving) (n : ModelTree) (closes : Closes g n) (d 
       )
       by (inr is) =
           let e = mimics.env_part known g n closes d c m at a f t part is in
-          let h = can_only seen closes.limits.units closes.limits.depth port Fits (fit_plain known g n closes) d.environment.doing m.more.term at.place f t kind pos e.is (subst (λ (b : Context). Can b f t kind pos) e.context can) in
+          let h = can_only seen closes.limits port Fits (fit_plain known g n closes) d.environment.doing m.more.term at.place f t kind pos e.is (subst (λ (b : Context). Can b f t kind pos) e.context can) in
           let same : Internal env_there Expire (at_line h.line) ≡ Internal at kind pos =
           ap (λ (x : End). Internal x Expire (at_line h.line)) (parts.end_is known g n closes d c m at is h.there)
           ∙ ap (λ (k : Kind). Internal at k (at_line h.line)) (sym h.expires)

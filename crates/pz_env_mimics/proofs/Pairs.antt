@@ -85,7 +85,7 @@ module _ (known : Known) (g : Driving) (n : ModelTree) (closes : Closes g n) (d 
           sender_active = at.part;
           sends_pos = at_line x;
           sends_port = port x;
-          sends = sends_there seen closes.limits.units closes.limits.depth port Fits (fit_plain known g n closes) x values at.fit gives.sends gives.paid;
+          sends = sends_there seen closes.limits port Fits (fit_plain known g n closes) x values at.fit gives.sends gives.paid;
           receives_at = seen_in n hears.seen;
           receives_frame = hears.frame;
           receives_part = hears.part;
@@ -120,7 +120,7 @@ module _ (known : Known) (g : Driving) (n : ModelTree) (closes : Closes g n) (d 
           receiver_active = at.part;
           receives_pos = at_line x;
           receives_port = port x;
-          receives = receives_there seen closes.limits.units closes.limits.depth port Fits (fit_plain known g n closes) x (length parcel.values) gets.receives;
+          receives = receives_there seen closes.limits port Fits (fit_plain known g n closes) x (length parcel.values) gets.receives;
           two = λ e. omega (arith, low, e);
           sender_wire = (closes.rules.wires s.process says.port w low).0 says.on;
           receiver_wire = (at.fit.wires w).1 on;
@@ -142,7 +142,7 @@ module _ (known : Known) (g : Driving) (n : ModelTree) (closes : Closes g n) (d 
       let says : Sends seen is.sends_frame is.sends_part is.sends_pos is.sends_port message parcel =
       subst (λ (a : Context). Sends a is.sends_frame is.sends_part is.sends_pos is.sends_port message parcel) e.context is.sends
       in
-      let h = sends_only seen closes.limits.units closes.limits.depth port Fits (fit_plain known g n closes) d.environment.doing m.more.term s.place is.sends_frame is.sends_part is.sends_pos is.sends_port message parcel e.is says in
+      let h = sends_only seen closes.limits port Fits (fit_plain known g n closes) d.environment.doing m.more.term s.place is.sends_frame is.sends_part is.sends_pos is.sends_port message parcel e.is says in
       let hears : Hears g d r w message (length parcel.values) = record {
         seen = seen_in g.setting.model is.receives_at;
         frame = is.receives_frame;
@@ -173,7 +173,7 @@ module _ (known : Known) (g : Driving) (n : ModelTree) (closes : Closes g n) (d 
       → r.process ≡ env → PairBack w s r message parcel
   into_env w s r message parcel is low at =
       let e = mimics.env_part known g n closes d c m r is.receives_at is.receives_frame is.receives_part is.receiver_active at in
-      let h = receives_only seen closes.limits.units closes.limits.depth port Fits (fit_plain known g n closes) d.environment.doing m.more.term r.place is.receives_frame is.receives_part is.receives_pos is.receives_port message (length parcel.values) e.is is.receives in
+      let h = receives_only seen closes.limits port Fits (fit_plain known g n closes) d.environment.doing m.more.term r.place is.receives_frame is.receives_part is.receives_pos is.receives_port message (length parcel.values) e.is is.receives in
       let says : Says g d s w message parcel = record {
         seen = seen_in g.setting.model is.sends_at;
         frame = is.sends_frame;

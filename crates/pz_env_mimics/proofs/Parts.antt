@@ -1,5 +1,5 @@
 -- Parts of the system, and that of the environment, in both.
-use Rattle.std.proofs.Common.{◌≡◌, ◌<◌, ◌≤◌, ℕ, List, [], sym, ap, subst, ◌∙◌}
+use Rattle.std.proofs.Common.{◌≡◌, ◌<◌, ℕ, List, [], sym, ap, subst, ◌∙◌}
 use Rattle.pz_syntax.specs.declared.tokens.Pos.{Pos}
 use Rattle.pz_syntax.specs.Classes.{ModelTree}
 use Rattle.pz_copy.specs.Parcels.{ParcelView}
@@ -87,12 +87,6 @@ module _ (known : Known) (g : Driving) (n : ModelTree) (closes : Closes g n) (d 
 
   -- The environment as a part
 
-  limits_units : 1 ≤ seen.setting.limits.units
-  limits_units = closes.limits.units
-
-  limits_depth : 1 ≤ seen.setting.limits.depth
-  limits_depth = closes.limits.depth
-
   plain_lines : (x : Line) → Fits x → IsPlain x
   plain_lines = fit_plain known g n closes
 
@@ -103,7 +97,7 @@ module _ (known : Known) (g : Driving) (n : ModelTree) (closes : Closes g n) (d 
 
   pub offered : (x : Line) (rest : List Line) → d.environment.doing ≡ offers x rest → IsOffered x rest
   offered x rest is =
-      let at = offers_there seen limits_units limits_depth port Fits plain_lines x rest m.more.term (subst (λ (k : Doing). IsDoing port Fits k m.more.term) is m.does) in
+      let at = offers_there seen closes.limits port Fits plain_lines x rest m.more.term (subst (λ (k : Doing). IsDoing port Fits k m.more.term) is m.does) in
       record {
         fit = at.fit;
         part = mimics.part_there known g n closes d c m here (leaf (exchange (port x) x x.entry.transfer)) (subst (λ (k : Place). IsActive seen m.more.term k 1 (leaf (exchange (port x) x x.entry.transfer))) (sym (ap place_of is)) at.active);

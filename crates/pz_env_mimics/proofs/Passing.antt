@@ -59,7 +59,7 @@ module _ (known : Known) (g : Driving) (n : ModelTree) (closes : Closes g n) whe
 
     pub passes_on : (time : ℕ) (next : Driven) → DrivenPasses g d time next → PassesOn time next
     passes_on time next is =
-        let e = elapsing.passes_there seen closes.limits.units closes.limits.depth port Fits_line (fit_plain known g n closes) time d.environment.doing m.more.term m.does in
+        let e = elapsing.passes_there seen closes.limits port Fits_line (fit_plain known g n closes) time d.environment.doing m.more.term m.does in
         let whole : IsWhole g.setting next.system = (known.stays_whole g.setting d.system next.system (Internal env_there Expire first_place) time m.both.whole).1 is.system in
         record {
           after = behind next.system (left_by m.more.state e.0);
@@ -67,7 +67,7 @@ module _ (known : Known) (g : Driving) (n : ModelTree) (closes : Closes g n) whe
           same = record {
             more = left_by m.more.state e.0;
             both = record { whole = whole; clock = refl; processes = refl };
-            does = subst (λ (k : Environment). IsDoing port Fits_line k.doing e.0) (sym is.environment) (elapsing.passes_only seen closes.limits.units closes.limits.depth port Fits_line (fit_plain known g n closes) time d.environment.doing m.more.term e.0 m.does e.1);
+            does = subst (λ (k : Environment). IsDoing port Fits_line k.doing e.0) (sym is.environment) (elapsing.passes_only seen closes.limits port Fits_line (fit_plain known g n closes) time d.environment.doing m.more.term e.0 m.does e.1);
             has = m.has ∙ ap (λ (k : Environment). k.objects) (sym is.environment);
           };
         }
@@ -88,7 +88,7 @@ module _ (known : Known) (g : Driving) (n : ModelTree) (closes : Closes g n) whe
           same = record {
             more = left_by m.more.state h.left;
             both = record { whole = whole; clock = ap (λ (k : Config). k.clock) h.is; processes = ap (λ (k : Config). k.processes) h.is };
-            does = elapsing.passes_only seen closes.limits.units closes.limits.depth port Fits_line (fit_plain known g n closes) time d.environment.doing m.more.term h.left m.does moved;
+            does = elapsing.passes_only seen closes.limits port Fits_line (fit_plain known g n closes) time d.environment.doing m.more.term h.left m.does moved;
             has = m.has;
           };
         }

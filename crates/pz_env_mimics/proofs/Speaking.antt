@@ -30,6 +30,7 @@ use Rattle.pz_env_rules.specs.Environment.{Line, at_line, wait_of}
 use Rattle.pz_env_rules.specs.Ends.{named_at}
 use Rattle.pz_env_tree.specs.EnvironmentClass.{unless_none}
 use Rattle.pz_env_mimics.specs.Environments.{exchange, arguments, IsPlain}
+use Rattle.pz_env_mimics.specs.Closing.{MayDrive}
 use Rattle.pz_env_mimics.proofs.Literals.{IsConstant, number_lasts, number_only, arguments_given, arguments_only, arguments_spent, arguments_only_spent}
 use Rattle.pz_env_mimics.proofs.PlainValues.{plain_parcel, only_plain_parcel, count_of}
 use Rattle.pz_env_mimics.proofs.Environment.{IsWaiting, not_begun, begun}
@@ -40,16 +41,16 @@ ok_same x y e = cc
 pub ok_apart : {A : Type 0} (x : A) (t : Trouble) → (let r : Result A Trouble = Ok x in r ≡ Err t) → ⊥
 ok_apart x t e = cc
 
--- The context of the environment, with enough for a number
-module _ (a : Context) (enough : 1 ≤ a.setting.limits.units) (deep : 1 ≤ a.setting.limits.depth) where
+-- The environment as it is seen, with enough for a number
+module _ (a : Context) (may : MayDrive a.setting.limits) where
   pub plain_number : (f : ℕ) (x : Line) → IsPlain x → Lasts a f (at_line x) (expression.literal (at_line x) (literal.Int x.entry.wait)) (Ok (wait_of x.entry))
   plain_number f x plain =
-      subst (λ (n : ℤ). Lasts a f (at_line x) (expression.literal (at_line x) (literal.Int n)) (Ok (wait_of x.entry))) (sym plain.wait) (number_lasts a f (at_line x) deep enough (wait_of x.entry))
+      subst (λ (n : ℤ). Lasts a f (at_line x) (expression.literal (at_line x) (literal.Int n)) (Ok (wait_of x.entry))) (sym plain.wait) (number_lasts a f (at_line x) may.depth may.units (wait_of x.entry))
 
   pub plain_number_only : (f : ℕ) (x : Line) → IsPlain x → (r : Result ℕ Trouble)
       → Lasts a f (at_line x) (expression.literal (at_line x) (literal.Int x.entry.wait)) r → r ≡ Ok (wait_of x.entry)
   plain_number_only f x plain r is =
-      number_only a f (at_line x) deep enough (wait_of x.entry) r (subst (λ (n : ℤ). Lasts a f (at_line x) (expression.literal (at_line x) (literal.Int n)) r) plain.wait is)
+      number_only a f (at_line x) may.depth may.units (wait_of x.entry) r (subst (λ (n : ℤ). Lasts a f (at_line x) (expression.literal (at_line x) (literal.Int n)) r) plain.wait is)
 
   -- Waiting
 
@@ -123,9 +124,9 @@ module _ (a : Context) (enough : 1 ≤ a.setting.limits.units) (deep : 1 ≤ a.s
     where
       by : (a.setting.limits.units < length values) ⊎ (length values ≤ a.setting.limits.units) → Said p x (Send values) (at_line x) p x.entry.message parcel
       by (inl more) =
-          absurd (ok_apart found (Spent a.process (at_line x)) (arguments_only_spent a g (at_line x) deep values plain more (Ok found) s gives))
+          absurd (ok_apart found (Spent a.process (at_line x)) (arguments_only_spent a g (at_line x) may.depth values plain more (Ok found) s gives))
       by (inr low) =
-          let same : found ≡ values = ok_same found values (arguments_only a g (at_line x) deep values plain low (Ok found) s gives).0 in
+          let same : found ≡ values = ok_same found values (arguments_only a g (at_line x) may.depth values plain low (Ok found) s gives).0 in
           record {
             values = values;
             sends = refl;
@@ -141,7 +142,8 @@ module _ (a : Context) (enough : 1 ≤ a.setting.limits.units) (deep : 1 ≤ a.s
       → Sends a g (leaf (exchange p x transfer)) (at_line x) p x.entry.message (record { values = values; objects = [] })
   exchange_sends g p x transfer values is plain low =
       subst (λ (r : Transfer). Sends a g (leaf (exchange p x r)) (at_line x) p x.entry.message (record { values = values; objects = [] })) (sym is)
-      (messages.sends (at_line x) p (named_at x x.entry.message) (arguments (at_line x) values) expression.left_out values a.state (record { values = values; objects = [] }) (arguments_given a g (at_line x) deep values plain low) (plain_parcel a.state values plain))
+      (messages.sends (at_line x) p (named_at x x.entry.message) (arguments (at_line x) values) expression.left_out values a.state (record { values = values; objects = [] })
+      (arguments_given a g (at_line x) may.depth values plain low) (plain_parcel a.state values plain))
 
   pub record Heard (p : ℕ) (x : Line) (transfer : Transfer) (at : Pos) (port : ℕ) (message : List ℕ) (count : ℕ) : Type 0 where
     pub receives : transfer ≡ Receive count
@@ -194,12 +196,13 @@ module _ (a : Context) (enough : 1 ≤ a.setting.limits.units) (deep : 1 ≤ a.s
             values = values;
             sends = refl;
             more = more;
-            is = err_same trouble (Spent a.process (at_line x)) (arguments_only_spent a g (at_line x) deep values plain more (Err trouble) s gives);
+            is = err_same trouble (Spent a.process (at_line x)) (arguments_only_spent a g (at_line x) may.depth values plain more (Err trouble) s gives);
           }
-      by (inr low) = absurd (ok_apart values trouble (sym (arguments_only a g (at_line x) deep values plain low (Err trouble) s gives).0))
+      by (inr low) = absurd (ok_apart values trouble (sym (arguments_only a g (at_line x) may.depth values plain low (Err trouble) s gives).0))
 
   pub exchange_asks : (g p : ℕ) (x : Line) (transfer : Transfer) (values : List Value) → transfer ≡ Send values → All IsConstant values
       → a.setting.limits.units < length values → Asks a g (leaf (exchange p x transfer)) (Spent a.process (at_line x))
   exchange_asks g p x transfer values is plain more =
       subst (λ (r : Transfer). Asks a g (leaf (exchange p x r)) (Spent a.process (at_line x))) (sym is)
-      (asking.arguments (at_line x) p (named_at x x.entry.message) (arguments (at_line x) values) expression.left_out (Spent a.process (at_line x)) a.state (arguments_spent a g (at_line x) deep values plain more))
+      (asking.arguments (at_line x) p (named_at x x.entry.message) (arguments (at_line x) values) expression.left_out (Spent a.process (at_line x)) a.state
+      (arguments_spent a g (at_line x) may.depth values plain more))

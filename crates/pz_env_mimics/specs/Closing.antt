@@ -18,8 +18,9 @@ use Rattle.pz_env_rules.specs.Driven.{environment_number}
 use Rattle.pz_env_same.specs.SameRules.{SameRules, in_model}
 use Rattle.pz_env_mimics.specs.Environments.{ArePlain, HasEnvironment}
 
--- The edition in which a plain call opens at once, and enough for a number: the values of a line are counted
--- by the driven rules themselves.
+-- The edition in which a plain call opens at once; a unit and a level of evaluation, for the number of a wait;
+-- and the height of what is left of the environment. Units for the values of a line are no matter here: where
+-- there are too few, that is a trouble in both.
 pub record MayDrive (limits : Limits) : Type 0 where
   pub edition : limits.edition ≡ Two
   pub units : 1 ≤ limits.units
