@@ -70,5 +70,6 @@ module _ (enter other : Step → StateView → Process) where
         ∙ ap (λ (xs : Beside). beside xs.state (and (steps_opened other ts s).term xs.terms)) (branches_same bs (back Same (begun_all ts) (begun_each bs) h) (steps_opened other ts s).state)
 
 -- a frame round what opens the same
-pub framed_same : (locals : ℕ) (inside other : StateView → Process) (s : StateView) → inside (with_frame s (least_free s.frames) locals) ≡ other (with_frame s (least_free s.frames) locals) → in_frame locals inside s ≡ in_frame locals other s
+pub framed_same : (locals : ℕ) (inside other : StateView → Process) (s : StateView)
+    → inside (with_frame s (least_free s.frames) locals) ≡ other (with_frame s (least_free s.frames) locals) → in_frame locals inside s ≡ in_frame locals other s
 framed_same locals inside other s same = ap (λ (x : Process). left_by x.state (framed (least_free s.frames) 0 [] x.term)) same

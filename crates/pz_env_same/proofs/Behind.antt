@@ -1,5 +1,5 @@
 -- A configuration with one process more: the others stand in it as they do without it.
-use Rattle.std.proofs.Common.{◌≡◌, ◌<◌, ◌≤◌, ◌+◌, ◌⊎◌, inl, inr, ℕ, List, [], ◌∷◌, ◌++◌, length, Some, refl, sym, subst, ap, ◌∙◌, arith}
+use Rattle.std.proofs.Common.{◌≡◌, ◌<◌, ◌≤◌, ◌+◌, ◌⊎◌, inl, inr, ℕ, List, [], ◌∷◌, length, Some, refl, sym, subst, ap, ◌∙◌, arith}
 use Rattle.std.specs.Prelude.{slice_get}
 use Rattle.std.proofs.lemmas.Bool.{cases_lt}
 use Rattle.std.proofs.lemmas.Option.{same_Some, slice_get_within}
@@ -85,7 +85,7 @@ module _ (n : ModelTree) (g : Setting) (c e : Config) (p : Process) (same : Same
   pub again_here : (i : ℕ) (q : Process) (a : Context) → Stands g c i q a → seen_in g.model (seen_in n a) ≡ a
   again_here i q a st = ap (λ (b : Context). seen_in g.model (seen_in n b)) st.seen ∙ sym st.seen
 
-  sees_there : (i : ℕ) (q : Process) (a : Context) → IsOf g.model i → Stands there e i q a → SeesTheSame g.model a
+  pub sees_there : (i : ℕ) (q : Process) (a : Context) → IsOf g.model i → Stands there e i q a → SeesTheSame g.model a
   sees_there i q a of st =
       let b = seen_in g.model a in
       let sees : SeesTheSame n b = processes_see n g c i q b same (stands_back i q a of st) in
@@ -123,7 +123,8 @@ module _ (n : ModelTree) (g : Setting) (c e : Config) (p : Process) (same : Same
       let whole : length c.processes ≡ length (processes g.model) = more.whole in
       by_order (cases_lt i (length (processes g.model))) within long whole
     where
-      by_order : (i < length (processes g.model)) ⊎ (length (processes g.model) ≤ i) → i < length e.processes → length e.processes ≡ length c.processes + 1 → length c.processes ≡ length (processes g.model) → i ≡ number_of_more g.model
+      by_order : (i < length (processes g.model)) ⊎ (length (processes g.model) ≤ i) → i < length e.processes → length e.processes ≡ length c.processes + 1
+          → length c.processes ≡ length (processes g.model) → i ≡ number_of_more g.model
       by_order (inl of) within long whole = absurd (not_of of)
       by_order (inr past) within long whole = omega (arith, past, within, long, whole)
 

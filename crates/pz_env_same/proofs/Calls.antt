@@ -24,7 +24,7 @@ use Rattle.pz_rules.specs.Openable.{IsProcessClass}
 use Rattle.pz_rules.specs.CallLaws.{plain_call, NoRounds, MethodsAreShallow}
 use Rattle.pz_env_same.specs.SameRules.{home_in, SameClass}
 use Rattle.pz_env_same.proofs.Beginnings.{Same, steps_same, framed_same}
-use Rattle.pz_env_same.proofs.Meant.{Called, called_is}
+use Rattle.pz_env_same.proofs.Meant.{called_is}
 
 module _ (P : Id → Type 0) where
   each_among : (xs : List Id) → ((x : Id) → Contains xs x → P x) → AllByRecursion P xs

@@ -45,7 +45,8 @@ module _ (n : ModelTree) (a : Context) (same : SeesTheSame n a) where
   turned_same s loop ts true = ap (λ (x : Process). before_loop loop x) (all_same ts s)
   turned_same s loop ts false = refl
 
-  entered_same : (s : StateView) (locals : ℕ) (results : List Slot) (body : Steps) (inputs : List Value) → entered (home_of a) s locals results body inputs ≡ entered (home_of (seen_in n a)) s locals results body inputs
+  entered_same : (s : StateView) (locals : ℕ) (results : List Slot) (body : Steps) (inputs : List Value)
+      → entered (home_of a) s locals results body inputs ≡ entered (home_of (seen_in n a)) s locals results body inputs
   entered_same s locals results body inputs =
       ap (λ (x : Process). left_by x.state (framed (least_free s.frames) (length inputs) results x.term)) (all_same body (with_inputs s (least_free s.frames) locals inputs))
 
@@ -71,12 +72,14 @@ performs n a same f _ _ _ (internal.calls at method args results r s locals body
     (internal.calls at method args results r s locals body (gives_all n a same f at args r s is)
     (record { is_body = sym (same.statements.bodies method.name (how_many args) (length results)) ∙ has.is_body }))
 
-pub hands : (n : ModelTree) (a : Context) → SeesTheSame n a → (f : ℕ) (parcel : ParcelView) (t : Term) (at : Pos) (r : Result Process Trouble) → Hands a f parcel t at r → Hands (seen_in n a) f parcel t at r
+pub hands : (n : ModelTree) (a : Context) → SeesTheSame n a → (f : ℕ) (parcel : ParcelView) (t : Term) (at : Pos) (r : Result Process Trouble)
+    → Hands a f parcel t at r → Hands (seen_in n a) f parcel t at r
 hands n a same f parcel _ _ _ (messages.hands at port name args block values s r left is packed after) =
     messages.hands at port name args block values s r left (gives_part n a same f at args (Ok values) s is) packed
     (gives_part n (in_state a s) (sees_in_state n a same s) f at block r left after)
 
-pub takes : (n : ModelTree) (a : Context) → SeesTheSame n a → (f : ℕ) (parcel : ParcelView) (t : Term) (at : Pos) (r : Result Process Trouble) → Takes a f parcel t at r → Takes (seen_in n a) f parcel t at r
+pub takes : (n : ModelTree) (a : Context) → SeesTheSame n a → (f : ℕ) (parcel : ParcelView) (t : Term) (at : Pos) (r : Result Process Trouble)
+    → Takes a f parcel t at r → Takes (seen_in n a) f parcel t at r
 takes n a same f parcel _ _ _ (messages.takes at port name into condition block r left fits after) =
     messages.takes at port name into condition block r left fits
     (gives_part n (in_state a (bound a f into parcel)) (sees_in_state n a same (bound a f into parcel)) f at block r left after)

@@ -1,14 +1,10 @@
 -- An action of processes of the model leads on to the same, with the one more behind it.
-use Rattle.std.proofs.Common.{◌≡◌, ◌<◌, ℕ, List, [], ◌∷◌, ◌++◌, length, set, Result, Ok, Err, refl, sym, subst, ap, ◌∙◌}
+use Rattle.std.proofs.Common.{◌≡◌, ◌<◌, ℕ, List, [], ◌∷◌, length, set, Result, Ok, Err, refl, sym, subst, ap, ◌∙◌}
 use Rattle.std.proofs.lemmas.List.{length-set, set-append_left}
 use Rattle.std.proofs.Math.Seq.{set-append_seam}
-use Rattle.pz_syntax.specs.declared.tokens.Pos.{Pos}
 use Rattle.pz_syntax.specs.Classes.{ModelTree}
-use Rattle.pz_bind.specs.Nest.{processes}
-use Rattle.pz_copy.specs.Parcels.{ParcelView}
 use Rattle.pz_offer.specs.declared.end.End.{End}
 use Rattle.pz_offer.specs.declared.trouble.Trouble.{Trouble}
-use Rattle.pz_rules.specs.declared.action.Kind.{Kind}
 use Rattle.pz_rules.specs.declared.action.Action.{Action}
 use Rattle.pz_rules.specs.declared.action.Action.TheVariants.{Internal, Comm}
 use Rattle.pz_rules.specs.Settings.{Setting, Process}
@@ -49,7 +45,8 @@ is_behind g c e p more = ap (λ (t : ℕ). config t e.processes) more.clock ∙ 
 one_behind : (g : Setting) (c e : Config) (p : Process) (i : ℕ) (q : Process) → IsOf g.model i → OneMore g c e p → with_process e i q ≡ behind (with_process c i q) p
 one_behind g c e p i q of more = is_behind g (with_process c i q) (with_process e i q) p (becomes_same g c e p i q of more)
 
-both_behind : (g : Setting) (c e : Config) (p : Process) (s r : End) (q x : Process) → IsOf g.model s.process → IsOf g.model r.process → OneMore g c e p → with_both e s r q x ≡ behind (with_both c s r q x) p
+both_behind : (g : Setting) (c e : Config) (p : Process) (s r : End) (q x : Process) → IsOf g.model s.process → IsOf g.model r.process → OneMore g c e p
+    → with_both e s r q x ≡ behind (with_both c s r q x) p
 both_behind g c e p s r q x of_s of_r more = one_behind g (with_process c s.process q) (with_process e s.process q) p r.process x of_r (becomes_same g c e p s.process q of_s more)
 
 -- What an action leads to
@@ -88,7 +85,7 @@ module _ (n : ModelTree) (g : Setting) (c e : Config) (p : Process) (same : Same
   leads_back _ of _ (steps.communication wire s r message parcel sent taken hands takes) = (
     and_then sent (λ q. and_then taken (λ x. Ok (with_both c s r q x))),
     steps.communication wire s r message parcel sent taken
-    (acts_meets there e g c (λ a f. Hands a f parcel) (hands_same parcel) s sent (from_there n g c e p same more s.process of.0) hands)
-    (acts_meets there e g c (λ a f. Takes a f parcel) (takes_same parcel) r taken (from_there n g c e p same more r.process of.1) takes),
+        (acts_meets there e g c (λ a f. Hands a f parcel) (hands_same parcel) s sent (from_there n g c e p same more s.process of.0) hands)
+        (acts_meets there e g c (λ a f. Takes a f parcel) (takes_same parcel) r taken (from_there n g c e p same more r.process of.1) takes),
     both_result s r of.0 of.1 sent taken,
   )

@@ -1,6 +1,7 @@
 mod Lists
 mod Evaluations
 mod Beginnings
+mod Resolved
 mod Meant
 mod Calls
 mod Openings

@@ -11,13 +11,13 @@ use Rattle.pz_classes_code.specs.Resolution.{Scope, resolved_statements}
 use Rattle.pz_classes.specs.declared.method_id.Counts.TheVariants.{Process}
 use Rattle.pz_classes.specs.declared.method_id.MethodId.{MethodId}
 use Rattle.pz_classes.specs.Ancestors.{ancestors}
-use Rattle.pz_classes.specs.Methods.{Signature, signatures, data_signature, process_signature, same_signature, methods_before, first_with, method_id, own_method, nearest, method_with}
+use Rattle.pz_classes.specs.Methods.{Signature, signatures, data_signature, process_signature, same_signature, methods_before, first_with, method_id, own_method, nearest}
 use Rattle.pz_classes.specs.Bodies.{BodyTree, process_body, data_scope, process_scope, data_body_in, process_body_in, process_locals}
-use Rattle.pz_classes.specs.MethodBodies.{data_method_in, process_method_in, first_body, own_body, body_with, process_method_body}
+use Rattle.pz_classes.specs.MethodBodies.{data_method_in, process_method_in, first_body, own_body, process_method_body}
 use Rattle.pz_classes_beginnings.specs.Beginning.{begun_all}
 use Rattle.pz_classes_openings.specs.Methods.{declared_methods, methods}
 use Rattle.pz_classes_openings.specs.Openings.{begun_at, called}
-use Rattle.pz_classes_openings.proofs.Resolved.{begun_all_same}
+use Rattle.pz_env_same.proofs.Resolved.{begun_all_same}
 use Rattle.pz_rules.specs.Terms.{Steps}
 
 abbrev Row : Type 0

@@ -1,6 +1,6 @@
 -- A process that stands in two configurations and sees the same there: what the rules say of its parts in the
 -- one they say in the other.
-use Rattle.std.proofs.Common.{◌≡◌, ℕ, Bool, true, List, length, Result, Ok, Err, ◌∙◌}
+use Rattle.std.proofs.Common.{ℕ, Bool, true, List, Result, Ok, Err, ◌∙◌}
 use Rattle.pz_syntax.specs.declared.tokens.Pos.{Pos}
 use Rattle.pz_syntax.specs.Classes.{ModelTree}
 use Rattle.pz_copy.specs.Parcels.{ParcelView}
@@ -61,7 +61,8 @@ module _ (g : Setting) (c : Config) (h : Setting) (e : Config) where
   internal_meets _ _ _ meets (offers.internal at a f t kind pos is does) =
       offers.internal at (seen_in h.model a) f t kind pos (part_meets at meets a f t is) (can h.model a (sees_at at meets a f t is) f t kind pos does)
 
-  pub pair_meets : (wire : ℕ) (s r : End) (message : List ℕ) (parcel : ParcelView) → Meets g c h e s.process → Meets g c h e r.process → IsPair g c wire s r message parcel → IsPair h e wire s r message parcel
+  pub pair_meets : (wire : ℕ) (s r : End) (message : List ℕ) (parcel : ParcelView) → Meets g c h e s.process → Meets g c h e r.process
+      → IsPair g c wire s r message parcel → IsPair h e wire s r message parcel
   pair_meets wire s r message parcel meets_s meets_r is = record {
     sends_at = seen_in h.model is.sends_at;
     sends_frame = is.sends_frame;

@@ -99,6 +99,7 @@ module _ (m n : ModelTree) (edition : Edition) (class : ℕ) (same : SameClass m
       ap (λ (p : Process). around here f p.state t i p.term) (residual_same (frame_in t f) (child t i) place x)
       ∙ around_same f inner.state t i inner.term
 
-pub settled_same : (n : ModelTree) (a : Context) (at : Pos) (whole : Term) (place : Place) (x : Process) → SeesTheSame n a → settled a at whole place x ≡ settled (seen_in n a) at whole place x
+pub settled_same : (n : ModelTree) (a : Context) (at : Pos) (whole : Term) (place : Place) (x : Process) → SeesTheSame n a
+    → settled a at whole place x ≡ settled (seen_in n a) at whole place x
 settled_same n a at whole place x same =
     ap (λ (p : Process). not_too_high a at (swept p)) (residual_same a.setting.model n a.setting.limits.edition a.class same.statements 0 whole place x)

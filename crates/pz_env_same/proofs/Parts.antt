@@ -24,7 +24,7 @@ use Rattle.pz_rules.specs.Messages as messages
 use Rattle.pz_rules.specs.Messages.{bound, Sends, Judges}
 use Rattle.pz_rules.specs.Delays as delays
 use Rattle.pz_rules.specs.Delays.{Delays}
-use Rattle.pz_env_same.specs.SameRules.{SameData, SameClass, seen_in, SeesTheSame}
+use Rattle.pz_env_same.specs.SameRules.{SameClass, seen_in, SeesTheSame}
 use Rattle.pz_env_same.proofs.Evaluations.{same_data_back, finds, finds_all}
 
 pub same_class_back : (m n : ModelTree) (class : ℕ) → SameClass m n class → SameClass n m class
@@ -53,14 +53,16 @@ gives n a same f at e r s g = record {
   means = g.means;
 }
 
-pub gives_all : (n : ModelTree) (a : Context) → SeesTheSame n a → (f : ℕ) (at : Pos) (es : Codes) (r : Result (List Value) Trouble) (s : StateView) → GivesAll a f at es r s → GivesAll (seen_in n a) f at es r s
+pub gives_all : (n : ModelTree) (a : Context) → SeesTheSame n a → (f : ℕ) (at : Pos) (es : Codes) (r : Result (List Value) Trouble) (s : StateView)
+    → GivesAll a f at es r s → GivesAll (seen_in n a) f at es r s
 gives_all n a same f at es r s g = record {
   outcome = g.outcome;
   finds = finds_all a.setting.model n same.data_classes a.clock f a.state (allowance a.setting.limits) es g.outcome s g.finds;
   means = g.means;
 }
 
-pub gives_part : (n : ModelTree) (a : Context) → SeesTheSame n a → (f : ℕ) (at : Pos) (es : Part Slot ClassId) (r : Result (List Value) Trouble) (s : StateView) → GivesPart a f at es r s → GivesPart (seen_in n a) f at es r s
+pub gives_part : (n : ModelTree) (a : Context) → SeesTheSame n a → (f : ℕ) (at : Pos) (es : Part Slot ClassId) (r : Result (List Value) Trouble) (s : StateView)
+    → GivesPart a f at es r s → GivesPart (seen_in n a) f at es r s
 gives_part n a same f at left_out r s g = g
 gives_part n a same f at (written es) r s g = gives_all n a same f at es r s g
 
@@ -105,11 +107,13 @@ can n a same f _ _ _ (internal.elapses at e is) = internal.elapses at e (lasts n
 can n a same f _ _ _ (internal.expires at) = internal.expires at
 can n a same f _ _ _ (internal.calls at method args results) = internal.calls at method args results
 
-pub sends : (n : ModelTree) (a : Context) → SeesTheSame n a → (f : ℕ) (t : Term) (at : Pos) (port : ℕ) (message : List ℕ) (parcel : ParcelView) → Sends a f t at port message parcel → Sends (seen_in n a) f t at port message parcel
+pub sends : (n : ModelTree) (a : Context) → SeesTheSame n a → (f : ℕ) (t : Term) (at : Pos) (port : ℕ) (message : List ℕ) (parcel : ParcelView)
+    → Sends a f t at port message parcel → Sends (seen_in n a) f t at port message parcel
 sends n a same f _ _ _ _ _ (messages.sends at port name args block values s parcel is packed) =
     messages.sends at port name args block values s parcel (gives_part n a same f at args (Ok values) s is) packed
 
-pub judges : (n : ModelTree) (a : Context) → SeesTheSame n a → (f : ℕ) (parcel : ParcelView) (t : Term) (verdict : Result Bool Trouble) → Judges a f parcel t verdict → Judges (seen_in n a) f parcel t verdict
+pub judges : (n : ModelTree) (a : Context) → SeesTheSame n a → (f : ℕ) (parcel : ParcelView) (t : Term) (verdict : Result Bool Trouble) → Judges a f parcel t verdict
+    → Judges (seen_in n a) f parcel t verdict
 judges n a same f parcel _ _ (messages.free at port name into block) = messages.free at port name into block
 judges n a same f parcel _ _ (messages.asks at port name into condition block r fits is) =
     messages.asks at port name into condition block r fits (tests n (in_state a (bound a f into parcel)) (sees_in_state n a same (bound a f into parcel)) f at condition r is)

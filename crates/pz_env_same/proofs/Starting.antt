@@ -1,8 +1,8 @@
 -- Processes of the model start as they do without the one more.
-use Rattle.std.proofs.Common.{◌≡◌, ◌<◌, ◌≤◌, ◌+◌, ◌⊎◌, inl, inr, ℕ, suc, List, [], ◌∷◌, ◌++◌, length, Option, Some, refl, sym, subst, ap, ◌∙◌, arith}
+use Rattle.std.proofs.Common.{◌≡◌, ◌<◌, ◌≤◌, ◌+◌, ◌⊎◌, inl, inr, ℕ, List, [], ◌∷◌, length, Some, refl, sym, subst, ap, ◌∙◌, arith}
 use Rattle.std.specs.Prelude.{slice_get}
 use Rattle.std.proofs.lemmas.Bool.{cases_lt}
-use Rattle.std.proofs.lemmas.Option.{same_Some, slice_get_within}
+use Rattle.std.proofs.lemmas.Option.{slice_get_within}
 use Rattle.std.proofs.lemmas.List.{length-append}
 use Rattle.pz_syntax.specs.Classes.{ModelTree}
 use Rattle.pz_value.specs.declared.value.Value.{Value}
@@ -20,10 +20,10 @@ use Rattle.pz_rules.specs.Starting.{begins_with, StartsAs, IsStart}
 use Rattle.pz_env_same.specs.SameRules.{home_in, SameProcess, SameRules, in_model}
 use Rattle.pz_env_same.specs.OneMore.{OneMore, IsOf, number_of_more}
 use Rattle.pz_env_same.specs.SystemLaws.{MoreStarts, HasStart}
-use Rattle.pz_env_same.proofs.Lists.{got_first, got_last, split_last}
+use Rattle.pz_env_same.proofs.Lists.{split_last}
 use Rattle.pz_env_same.proofs.Openings.{opened_same}
 use Rattle.pz_env_same.proofs.Leading.{config}
-use Rattle.pz_env_same.proofs.Behind.{place_there, here_there, last_place, last_process, last_number, last_is}
+use Rattle.pz_env_same.proofs.Behind.{place_there, here_there, last_process, last_number, last_is}
 
 -- One process
 

@@ -1,6 +1,5 @@
 -- Configurations of which one has one process more.
 use Rattle.std.specs.Prelude.{◌≡◌, ◌<◌, ℕ, [], ◌∷◌, ◌++◌, length, Result, Ok}
-use Rattle.pz_syntax.specs.declared.tokens.Pos.{Pos}
 use Rattle.pz_syntax.specs.Classes.{ModelTree}
 use Rattle.pz_bind.specs.Nest.{processes}
 use Rattle.pz_offer.specs.declared.trouble.Trouble.{Trouble}

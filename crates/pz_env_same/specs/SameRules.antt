@@ -26,14 +26,14 @@ pub record SameData (m n : ModelTree) : Type 0 where
 abbrev pub home_in : ModelTree → Edition → ℕ → Home
 home_in m edition class = record { model = m; edition = edition; class = class }
 
--- What the statements of a process of this class take of it is the same in both: the bodies of its methods,
--- and what a plain call becomes.
+-- What the statements of processes of this class take of a model is the same in both: the bodies of their
+-- methods, and what a plain call becomes.
 pub record SameClass (m n : ModelTree) (class : ℕ) : Type 0 where
   pub bodies : (name : List ℕ) (inputs outputs : ℕ) → process_method_body m class name inputs outputs ≡ process_method_body n class name inputs outputs
   pub calls : (edition : Edition) (pos : Pos) (method : Id) (s : StateView)
       → enter (home_in m edition class) (plain_call pos method) s ≡ enter (home_in n edition class) (plain_call pos method) s
 
--- so is what stands at this place
+-- What stands at this place is of the same class in both, is named the same, and starts and goes on the same.
 pub record SameProcess (m n : ModelTree) (place : Address) : Type 0 where
   pub class : class_at m place ≡ class_at n place
   pub path : path m place ≡ path n place
@@ -41,7 +41,8 @@ pub record SameProcess (m n : ModelTree) (place : Address) : Type 0 where
   pub init : init m (class_at m place) ≡ init n (class_at m place)
   pub statements : SameClass m n (class_at m place)
 
--- The model n has the processes of m, with the same numbers and wires, and one more behind them.
+-- The model n has the processes of m, at the same numbers and places and with the same wires, and one more,
+-- at a place of its own, behind them.
 pub record SameRules (m n : ModelTree) : Type 0 where
   pub data_classes : SameData m n
   pub more : Address

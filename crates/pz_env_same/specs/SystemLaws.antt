@@ -1,6 +1,6 @@
 -- Laws of configurations: n has the rules of the model of the setting, and one process more; and e is c with
 -- one more process p. What the rules say of the processes of c is so in both.
-use Rattle.std.specs.Prelude.{◌≡◌, ◌↔◌, ℕ, Bool, List, [], ◌∷◌, ◌++◌, length, Some, Result, Ok, Err, slice_get}
+use Rattle.std.specs.Prelude.{◌≡◌, ◌↔◌, ℕ, Bool, List, Some, Result, slice_get}
 use Rattle.pz_syntax.specs.declared.tokens.Pos.{Pos}
 use Rattle.pz_syntax.specs.Classes.{ModelTree}
 use Rattle.pz_bind_levels.specs.Places.{Address}
@@ -19,9 +19,9 @@ use Rattle.pz_rules.specs.Delays.{Passes}
 use Rattle.pz_rules.specs.Configurations.{Config, IsWhole, Stands}
 use Rattle.pz_rules.specs.Starting.{StartsAs, IsStart}
 use Rattle.pz_rules.specs.Offers.{PartAt, IsPair, IsJudged, Offers}
-use Rattle.pz_rules.specs.Steps.{Acts, Next, PassesTo, with_process, with_both}
-use Rattle.pz_rules.specs.Moments.{IsFirstHigh, Source, part, pair, Troubles, IsLeft, AllDone}
-use Rattle.pz_env_same.specs.SameRules.{SameRules, in_model, seen_in}
+use Rattle.pz_rules.specs.Steps.{Acts, Next, PassesTo, with_process}
+use Rattle.pz_rules.specs.Moments.{IsFirstHigh, part, pair, Troubles, IsLeft, AllDone}
+use Rattle.pz_env_same.specs.SameRules.{SameRules, in_model, seen_in, SeesTheSame}
 use Rattle.pz_env_same.specs.OneMore.{OneMore, behind, result_behind, IsOf, number_of_more, IsActionOf}
 
 -- of a model n, a setting g with its model, and configurations c and e
@@ -29,6 +29,9 @@ abbrev pub OfBoth : (ModelTree → Setting → Config → Config → Process →
 OfBoth says = (n : ModelTree) (g : Setting) (c e : Config) (p : Process) → SameRules g.model n → OneMore g c e p → says n g c e p
 
 -- What stands where
+
+abbrev pub OneMoreIsBehind : Type 0
+OneMoreIsBehind = (g : Setting) (c e : Config) (p : Process) → OneMore g c e p → e ≡ behind c p
 
 abbrev pub BothAreWhole : Type 0
 BothAreWhole = OfBoth (λ n g c e p. IsWhole (in_model n g) e)
@@ -38,6 +41,11 @@ abbrev pub ProcessesStandInBoth : Type 0
 ProcessesStandInBoth = OfBoth (λ n g c e p. (i : ℕ) (q : Process) →
     ((a : Context) → Stands g c i q a → Stands (in_model n g) e i q (seen_in n a))
     × ((a : Context) → IsOf g.model i → Stands (in_model n g) e i q a → Stands g c i q (seen_in g.model a)))
+
+abbrev pub ProcessesSeeTheSameInBoth : Type 0
+ProcessesSeeTheSameInBoth = OfBoth (λ n g c e p. (i : ℕ) (q : Process) →
+    ((a : Context) → Stands g c i q a → SeesTheSame n a)
+    × ((a : Context) → IsOf g.model i → Stands (in_model n g) e i q a → SeesTheSame g.model a))
 
 -- the one more stands behind them, and nothing else does
 abbrev pub OneMoreStands : Type 0

@@ -1,7 +1,7 @@
 // Laws of two models with the same rules, each the contract of a function that does nothing.
 
 ghost use Rattle.pz_env_same.specs.Laws.{EvaluationsAreTheSame, ListEvaluationsAreTheSame, TestsAreTheSame, TimesAreTheSame, PartsAreTheSame, AskedIsTheSame, ActivePartsAreTheSame, ActionsAreTheSame, SendsAreTheSame, JudgementsAreTheSame, DelaysAreTheSame, PerformancesAreTheSame, HandingsAreTheSame, TakingsAreTheSame, LeavingsAreTheSame, PassingsAreTheSame, OpeningsAreTheSame, SequencesOpenTheSame, SameBodiesMakeSameCalls, SeeingIsSymmetric, ProcessesSeeTheSame};
-ghost use Rattle.pz_env_same.specs.SystemLaws.{BothAreWhole, ProcessesStandInBoth, OneMoreStands, OneMoreIsLast, PartsStandInBoth, PartsAreOfTheModel, InternalOffersAreTheSame, PairsAreTheSame, VerdictsAreTheSame, CommunicationsAreTheSame, TroublesOfPartsAreTheSame, TroublesOfPairsAreTheSame, DelaysLeaveTheSame, HighIsTheSame, AllAreDoneInBoth, PartsPerformTheSame, PartsHandTheSame, PartsTakeTheSame, ProcessesBecomeTheSame, OneMoreBecomes, LeadOnToBoth, TimePassesInBoth, StartsHaveOneMore, StartsAreOfBoth};
+ghost use Rattle.pz_env_same.specs.SystemLaws.{OneMoreIsBehind, BothAreWhole, ProcessesStandInBoth, ProcessesSeeTheSameInBoth, OneMoreStands, OneMoreIsLast, PartsStandInBoth, PartsAreOfTheModel, InternalOffersAreTheSame, PairsAreTheSame, VerdictsAreTheSame, CommunicationsAreTheSame, TroublesOfPartsAreTheSame, TroublesOfPairsAreTheSame, DelaysLeaveTheSame, HighIsTheSame, AllAreDoneInBoth, PartsPerformTheSame, PartsHandTheSame, PartsTakeTheSame, ProcessesBecomeTheSame, OneMoreBecomes, LeadOnToBoth, TimePassesInBoth, StartsHaveOneMore, StartsAreOfBoth};
 
 /// Where two models have the same data classes, an evaluation finds the same in both.
 pub fn evaluations_are_the_same()
@@ -56,8 +56,10 @@ pub fn same_bodies_make_same_calls()
 
 /// In a configuration with one process more, the others stand as they do without it.
 pub fn processes_stand_in_both()
+    ensures behind { OneMoreIsBehind }
     ensures whole { BothAreWhole }
     ensures processes { ProcessesStandInBoth }
+    ensures sees { ProcessesSeeTheSameInBoth }
     ensures more { OneMoreStands }
     ensures last { OneMoreIsLast }
     ensures parts { PartsStandInBoth }
