@@ -1,6 +1,6 @@
 -- The text of a driven run: as that of a run, with a first line of its own, and with the path `env` for
 -- the environment.
-use Rattle.std.specs.Prelude.{◌≡◌, ℕ, nat_eq, List, ◌++◌, codes, if◌then◌else◌}
+use Rattle.std.specs.Prelude.{◌≡◌, ℕ, nat_eq, List, [], ◌∷◌, ◌++◌, codes, if◌then◌else◌}
 use Rattle.std.specs.List.{flat_map}
 use Rattle.std.specs.Fmt.{decimal}
 use Rattle.pz_syntax.specs.declared.tokens.Pos.{Pos}
@@ -34,9 +34,14 @@ module _ (g : Driving) where
   abbrev pub spot : ℕ → Pos → List ℕ
   spot process at = path_in process ++ (codes " " ++ pos_text at)
 
+  -- The names of classes by their numbers. The one behind those of the model is that of the environment: no
+  -- object has that number.
+  abbrev pub names_in : List (List ℕ)
+  names_in = class_names g.setting.model ++ codes "ScriptEnv" ∷ []
+
   -- `path ! message(parcel)`, where nothing stands between the message and the parcel
   abbrev pub sending : ℕ → List ℕ → ParcelView → List ℕ
-  sending sender message parcel = path_in sender ++ (codes " ! " ++ (message ++ parcel_text (class_names g.setting.model) parcel))
+  sending sender message parcel = path_in sender ++ (codes " ! " ++ (message ++ parcel_text names_in parcel))
 
   abbrev pub label : Action → List ℕ
   label (Internal at kind pos) = path_in at.process ++ (codes " " ++ (kind_word kind ++ (codes " " ++ pos_text pos)))
