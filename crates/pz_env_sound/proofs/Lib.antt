@@ -1,0 +1,4 @@
+pub mod Numbered
+pub mod Grown
+pub mod Ways
+pub mod Line

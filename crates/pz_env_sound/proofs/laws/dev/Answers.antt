@@ -1,0 +1,1 @@
+use Rattle.pz_env_sound.proofs.Line.{ancestors_same}

@@ -1,0 +1,6 @@
+// Laws of closed systems, each the contract of a function that does nothing.
+
+/// Under way.
+pub fn dev()
+    ensures { Unit {0} }
+{}
