@@ -2,3 +2,4 @@ pub mod Numbered
 pub mod Grown
 pub mod Ways
 pub mod Line
+pub mod Owned

@@ -1,1 +1,1 @@
-use Rattle.pz_env_sound.proofs.Line.{ancestors_same}
+use Rattle.pz_env_sound.proofs.Owned.{fields_same}
