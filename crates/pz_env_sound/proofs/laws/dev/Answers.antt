@@ -1,1 +1,1 @@
-use Rattle.pz_env_sound.proofs.Owned.{fields_same}
+use Rattle.pz_env_sound.proofs.ClassRules.{no_class}
