@@ -5,3 +5,5 @@ pub mod Line
 pub mod Owned
 pub mod Fresh
 pub mod ClassRules
+pub mod KeptWords
+pub mod Words

@@ -1,1 +1,1 @@
-use Rattle.pz_env_sound.proofs.ClassRules.{no_class}
+use Rattle.pz_env_sound.proofs.Words.{no_word}
