@@ -7,3 +7,5 @@ pub mod Fresh
 pub mod ClassRules
 pub mod KeptWords
 pub mod Words
+pub mod Repeating
+pub mod RepeatedNames

@@ -1,1 +1,1 @@
-use Rattle.pz_env_sound.proofs.Words.{no_word}
+use Rattle.pz_env_sound.proofs.RepeatedNames.{no_repeat}
