@@ -9,12 +9,13 @@ use Rattle.pz_syntax.specs.Classes.{ProcessClassTree, ModelTree}
 use Rattle.pz_classes_code.specs.ReservedNames.{is_primitive, is_unsupported}
 use Rattle.pz_classes.specs.Numbers.{class}
 
--- no class of the model has its name, and it extends none
+-- no class of the model has its name; it extends none and has no parameters
 pub record IsFresh (m : ModelTree) (e : ProcessClassTree) : Type 0 where
   pub unknown : class m e.name.name ≡ None
   pub supported : is_unsupported e.name.name ≡ false
   pub free : is_primitive e.name.name ≡ false
   pub alone : e.parent ≡ None
+  pub bare : e.parameters ≡ None
 
 -- the system has one more instance, of that class, which is given nothing
 pub record Gains (f : SystemDecl → SystemDecl) (e : ProcessClassTree) (i : Instance) : Type 0 where

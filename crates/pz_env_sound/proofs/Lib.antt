@@ -9,3 +9,4 @@ pub mod KeptWords
 pub mod Words
 pub mod Repeating
 pub mod RepeatedNames
+pub mod Instances

@@ -1,1 +1,1 @@
-use Rattle.pz_env_sound.proofs.RepeatedNames.{no_repeat}
+use Rattle.pz_env_sound.proofs.Instances.{none_holds_itself}
