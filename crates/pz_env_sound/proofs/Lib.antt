@@ -10,3 +10,4 @@ pub mod Words
 pub mod Repeating
 pub mod RepeatedNames
 pub mod Instances
+pub mod Channels

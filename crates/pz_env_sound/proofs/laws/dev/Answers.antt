@@ -1,1 +1,1 @@
-use Rattle.pz_env_sound.proofs.Instances.{none_holds_itself}
+use Rattle.pz_env_sound.proofs.Channels.{no_end_twice}
