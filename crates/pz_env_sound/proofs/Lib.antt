@@ -11,3 +11,4 @@ pub mod Repeating
 pub mod RepeatedNames
 pub mod Instances
 pub mod Channels
+pub mod Depth

@@ -1,1 +1,1 @@
-use Rattle.pz_env_sound.proofs.Channels.{no_end_twice}
+use Rattle.pz_env_sound.proofs.Depth.{deep_enough}
