@@ -12,3 +12,4 @@ pub mod RepeatedNames
 pub mod Instances
 pub mod Channels
 pub mod Depth
+pub mod Size

@@ -1,1 +1,1 @@
-use Rattle.pz_env_sound.proofs.Depth.{deep_enough}
+use Rattle.pz_env_sound.proofs.Size.{one_system}
