@@ -13,3 +13,4 @@ pub mod Instances
 pub mod Channels
 pub mod Depth
 pub mod Size
+pub mod Openings

@@ -1,1 +1,1 @@
-use Rattle.pz_env_sound.proofs.Size.{one_system}
+use Rattle.pz_env_sound.proofs.Openings.{grown_opens}
