@@ -14,3 +14,4 @@ pub mod Channels
 pub mod Depth
 pub mod Size
 pub mod Openings
+pub mod GrownSound

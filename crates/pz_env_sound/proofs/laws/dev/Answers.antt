@@ -1,1 +1,1 @@
-use Rattle.pz_env_sound.proofs.Openings.{grown_opens}
+use Rattle.pz_env_sound.proofs.GrownSound.{grown_is_sound}
