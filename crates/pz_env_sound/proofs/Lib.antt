@@ -15,3 +15,4 @@ pub mod Depth
 pub mod Size
 pub mod Openings
 pub mod GrownSound
+pub mod Closed

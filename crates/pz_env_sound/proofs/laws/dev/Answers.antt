@@ -1,1 +1,1 @@
-use Rattle.pz_env_sound.proofs.GrownSound.{grown_is_sound}
+use Rattle.pz_env_sound.proofs.Closed.{is_grown}
