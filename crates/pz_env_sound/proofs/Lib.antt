@@ -16,3 +16,4 @@ pub mod Size
 pub mod Openings
 pub mod GrownSound
 pub mod Closed
+pub mod Distinct

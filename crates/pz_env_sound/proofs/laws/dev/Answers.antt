@@ -1,1 +1,1 @@
-use Rattle.pz_env_sound.proofs.Closed.{is_grown}
+use Rattle.pz_env_sound.proofs.Distinct.{apart_by}
