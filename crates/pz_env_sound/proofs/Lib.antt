@@ -17,3 +17,4 @@ pub mod Openings
 pub mod GrownSound
 pub mod Closed
 pub mod Distinct
+pub mod Ports

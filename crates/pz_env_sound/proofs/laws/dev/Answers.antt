@@ -1,1 +1,1 @@
-use Rattle.pz_env_sound.proofs.Distinct.{apart_by}
+use Rattle.pz_env_sound.proofs.Ports.{port_tells}
