@@ -18,3 +18,4 @@ pub mod GrownSound
 pub mod Closed
 pub mod Distinct
 pub mod Ports
+pub mod EnvironmentNames

@@ -1,1 +1,1 @@
-use Rattle.pz_env_sound.proofs.Ports.{port_tells}
+use Rattle.pz_env_sound.proofs.EnvironmentNames.{environment_apart}
