@@ -19,3 +19,4 @@ pub mod Closed
 pub mod Distinct
 pub mod Ports
 pub mod EnvironmentNames
+pub mod EnvironmentMentions

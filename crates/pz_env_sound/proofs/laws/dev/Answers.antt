@@ -1,1 +1,1 @@
-use Rattle.pz_env_sound.proofs.EnvironmentNames.{environment_apart}
+use Rattle.pz_env_sound.proofs.EnvironmentMentions.{each_said}
