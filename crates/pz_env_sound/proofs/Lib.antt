@@ -20,3 +20,4 @@ pub mod Distinct
 pub mod Ports
 pub mod EnvironmentNames
 pub mod EnvironmentMentions
+pub mod EnvironmentWords

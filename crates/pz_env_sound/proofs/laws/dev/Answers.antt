@@ -1,1 +1,1 @@
-use Rattle.pz_env_sound.proofs.EnvironmentMentions.{each_said}
+use Rattle.pz_env_sound.proofs.EnvironmentWords.{environment_words}
