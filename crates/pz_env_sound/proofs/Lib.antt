@@ -21,3 +21,4 @@ pub mod Ports
 pub mod EnvironmentNames
 pub mod EnvironmentMentions
 pub mod EnvironmentWords
+pub mod Unrefused

@@ -1,1 +1,1 @@
-use Rattle.pz_env_sound.proofs.EnvironmentWords.{environment_words}
+use Rattle.pz_env_sound.proofs.Unrefused.{system_channels}
