@@ -62,7 +62,7 @@ module _ (f : SystemDecl → SystemDecl) (e : ProcessClassTree) (i : Instance) (
   pub ends_grown : (s : SystemDecl) → ends (system (f s)) ≡ ends (system s) ++ ends_of more
   ends_grown s = ap ends_of (joins s) ∙ flat_map-append (λ (h : Channel). h.ends) (unwrap_or s.channels []) more
 
-  named_still : (was : DeclTree) (name : List ℕ) (j : Instance) → instance_named was name ≡ Some j → instance_named (grown_decl f was) name ≡ Some j
+  pub named_still : (was : DeclTree) (name : List ℕ) (j : Instance) → instance_named was name ≡ Some j → instance_named (grown_decl f was) name ≡ Some j
   named_still (data_class d) name j is = is
   named_still (process_class d) name j is = is
   named_still (cluster_class d) name j is = is
@@ -71,7 +71,7 @@ module _ (f : SystemDecl → SystemDecl) (e : ProcessClassTree) (i : Instance) (
       ∙ found_still (λ (x : Instance). bytes_eq name x.name.name) (unwrap_or s.instances []) (i ∷ []) j is
 
   -- an instance has the ports that it had
-  port_still : (port : List ℕ) (c : ℕ) (was : DeclTree) → declaration m c ≡ Some was → (j : Instance) → Contains (instances was) j → has_port m port j ≡ true → has_port (grown m f e) port j ≡ true
+  pub port_still : (port : List ℕ) (c : ℕ) (was : DeclTree) → declaration m c ≡ Some was → (j : Instance) → Contains (instances was) j → has_port m port j ≡ true → has_port (grown m f e) port j ≡ true
   port_still port c was there j has is =
       let its = has_class f e i m gains sound reached fresh systems c was there j has in
       let low = its.within in

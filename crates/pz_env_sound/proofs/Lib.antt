@@ -22,3 +22,4 @@ pub mod EnvironmentNames
 pub mod EnvironmentMentions
 pub mod EnvironmentWords
 pub mod Unrefused
+pub mod NewEnds

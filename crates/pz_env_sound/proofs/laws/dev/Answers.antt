@@ -1,1 +1,1 @@
-use Rattle.pz_env_sound.proofs.Unrefused.{system_channels}
+use Rattle.pz_env_sound.proofs.NewEnds.{ends_apart}
