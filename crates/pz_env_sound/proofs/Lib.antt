@@ -23,3 +23,5 @@ pub mod EnvironmentMentions
 pub mod EnvironmentWords
 pub mod Unrefused
 pub mod NewEnds
+pub mod Joined
+pub mod ClosedSound

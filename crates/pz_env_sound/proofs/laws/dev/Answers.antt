@@ -1,1 +1,1 @@
-use Rattle.pz_env_sound.proofs.NewEnds.{ends_apart}
+use Rattle.pz_env_sound.proofs.ClosedSound.{closed_opens}
