@@ -25,3 +25,4 @@ pub mod Unrefused
 pub mod NewEnds
 pub mod Joined
 pub mod ClosedSound
+pub mod Limits

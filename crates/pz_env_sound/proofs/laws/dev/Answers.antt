@@ -1,1 +1,1 @@
-use Rattle.pz_env_sound.proofs.ClosedSound.{closed_opens}
+use Rattle.pz_env_sound.proofs.Limits.{few_entries}
