@@ -26,3 +26,5 @@ pub mod NewEnds
 pub mod Joined
 pub mod ClosedSound
 pub mod Limits
+pub mod Marks
+pub mod FewMarks

@@ -1,1 +1,1 @@
-use Rattle.pz_env_sound.proofs.Limits.{few_entries}
+use Rattle.pz_env_sound.proofs.FewMarks.{closed_has_few}
