@@ -49,7 +49,7 @@ pub lines_counted : (n : ℕ) (es : List Entry) → length (lines_from n es) ≡
 lines_counted n [] = refl
 lines_counted n (e ∷ es) = ap (λ (k : ℕ). suc k) (lines_counted (suc n) es)
 
-entry_in : (n : ℕ) (es : List Entry) (x : Line) → Contains (lines_from n es) x → Contains es x.entry
+pub entry_in : (n : ℕ) (es : List Entry) (x : Line) → Contains (lines_from n es) x → Contains es x.entry
 entry_in n [] x has = absurd (none_in x has)
 entry_in n (e ∷ es) x has = by (in_cases (record { number = n; entry = e }) (lines_from (suc n) es) x has) (entry_in (suc n) es x)
   where
