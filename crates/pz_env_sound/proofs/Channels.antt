@@ -1,10 +1,10 @@
 -- The ends of the channels of a grown model: those that were there, and those of the channels that are
 -- new. C16 and C17.
-use Rattle.std.proofs.Common.{◌≡◌, ◌≢◌, refl, sym, ap, subst, ◌∙◌, ℕ, suc, Bool, true, false, not, ◌&&◌, List, [], ◌∷◌, ◌++◌, length, Option, Some, None, IsTrue, if◌then◌else◌, arith, ◌⊎◌, inl, inr, ⊎_elim}
+use Rattle.std.proofs.Common.{◌≡◌, ◌≢◌, refl, sym, ap, subst, ◌∙◌, ℕ, Bool, true, false, not, ◌&&◌, List, [], ◌∷◌, ◌++◌, Option, Some, None, IsTrue, if◌then◌else◌, arith, ◌⊎◌, inl, inr, ⊎_elim}
 use Rattle.std.specs.List.{Contains, find, flat_map}
 use Rattle.std.specs.Option.{unwrap_or, option_map_or}
 use Rattle.std.specs.Str.{bytes_eq}
-use Rattle.std.proofs.lemmas.Bool.{both_ways, false≢true, true_from_ne_false, false_from_ne_true, not_from_true, not_from_false}
+use Rattle.std.proofs.lemmas.Bool.{both_ways, false≢true, false_from_ne_true, not_from_true}
 use Rattle.std.proofs.lemmas.Grind.{flat_map-append}
 use Rattle.std.proofs.lemmas.List.Elements.{Contains-append_cases}
 use Rattle.pz_syntax.specs.declared.names.Id.{Id}
@@ -21,18 +21,18 @@ use Rattle.pz_classes.specs.Kinds.{is_cluster}
 use Rattle.pz_classes.specs.Members.{ports}
 use Rattle.pz_classes.specs.Words.{is_among}
 use Rattle.pz_classes.specs.Reached.{AncestorsAreReached}
-use Rattle.pz_classes.specs.Instances.{instances, channels, instance_class}
+use Rattle.pz_classes.specs.Instances.{instances, channels}
 use Rattle.pz_classes.specs.RepeatRules.{Repeats}
 use Rattle.pz_classes.specs.ChannelRules.{end_place, ends, instance_named, has_port, breaks_c16, BreaksC16, no_end, same_end, both_outer, BreaksC17, again_end, again_outer}
 use Rattle.pz_classes.specs.SoundSystem.{SoundSystemsFit}
 use Rattle.pz_classes.specs.Soundness.{IsSound, an_end, two_ends}
-use Rattle.pz_env_sound.proofs.Numbered.{none_some, some_same}
-use Rattle.pz_env_sound.proofs.Ways.{none_in, first_in, later_in, in_cases}
+use Rattle.pz_env_sound.proofs.Numbers.{none_some, some_same}
+use Rattle.pz_env_sound.proofs.WaysUp.{none_in, first_in, later_in}
 use Rattle.pz_env_sound.proofs.Grown.{grown_decl, grown, IsDeclared, old, new, declared, declared_other, cluster_same}
-use Rattle.pz_env_sound.proofs.Owned.{ports_same}
-use Rattle.pz_env_sound.proofs.Fresh.{IsFresh, Gains}
-use Rattle.pz_env_sound.proofs.Repeating.{in_parts}
-use Rattle.pz_env_sound.proofs.Instances.{HasClass, has_class}
+use Rattle.pz_env_sound.proofs.Members.{ports_same}
+use Rattle.pz_env_sound.proofs.NewParts.{IsFresh, Gains}
+use Rattle.pz_env_sound.proofs.RepeatsInParts.{in_parts}
+use Rattle.pz_env_sound.proofs.Instances.{has_class}
 
 -- the system has these channels behind its own
 abbrev pub Joins : (SystemDecl → SystemDecl) → List Channel → Type 0

@@ -1,8 +1,8 @@
 -- C1 to C3 in a grown model.
-use Rattle.std.proofs.Common.{◌≡◌, ◌≢◌, refl, sym, ap, subst, ◌∙◌, ℕ, suc, Bool, true, false, not, ◌&&◌, ◌||◌, nat_eq, List, length, Option, Some, None, IsTrue, if◌then◌else◌, arith, ◌⊎◌, inl, inr}
+use Rattle.std.proofs.Common.{◌≡◌, refl, sym, ap, subst, ◌∙◌, ℕ, suc, Bool, true, false, not, ◌&&◌, ◌||◌, nat_eq, List, length, Option, Some, None, if◌then◌else◌, arith, ◌⊎◌, inl, inr}
 use Rattle.std.specs.List.{Contains}
 use Rattle.std.specs.Option.{option_map_or}
-use Rattle.std.proofs.lemmas.Bool.{both_ways, false≢true, false_from_ne_true, and_cases, and_left, and_right, or_parts, or_from, not_from_true}
+use Rattle.std.proofs.lemmas.Bool.{both_ways, false_from_ne_true, and_cases, and_left, and_right, or_parts, or_from}
 use Rattle.std.proofs.lemmas.Bool.Decides.{nat_tests}
 use Rattle.pz_syntax.specs.declared.names.Id.{Id}
 use Rattle.pz_syntax.specs.declared.clusters.SystemDecl.{SystemDecl}
@@ -10,16 +10,16 @@ use Rattle.pz_syntax.specs.Classes.{DeclTree, ProcessClassTree, data_class, proc
 use Rattle.pz_check_violations.specs.declared.violation.Violation.{Violation}
 use Rattle.pz_check_violations.specs.Order.{violation}
 use Rattle.pz_classes_code.specs.ReservedNames.{is_primitive, is_unsupported, is_object}
-use Rattle.pz_classes.specs.Numbers.{declared_name, declaration, class}
+use Rattle.pz_classes.specs.Numbers.{declared_name, class}
 use Rattle.pz_classes.specs.Kinds.{is_data, is_declared_as}
-use Rattle.pz_classes.specs.Ancestors.{extended, parent, ancestors}
+use Rattle.pz_classes.specs.Ancestors.{extended, parent}
 use Rattle.pz_classes.specs.Reached.{AncestorsAreReached}
 use Rattle.pz_classes.specs.Violations.{is_again, breaks_c1, same_sort, is_of_sort, may_extend, breaks_c2, Violates, c1, c2, c3}
 use Rattle.pz_classes.specs.Soundness.{IsSound}
-use Rattle.pz_env_sound.proofs.Numbered.{none_some, some_same}
+use Rattle.pz_env_sound.proofs.Numbers.{none_some, some_same}
 use Rattle.pz_env_sound.proofs.Grown.{grown_decl, grown, IsDeclared, old, new, declared, declared_other, class_kept, class_new, sort_kept, data_same}
-use Rattle.pz_env_sound.proofs.Line.{extended_same, parent_within, parent_same, parent_new, ancestors_same}
-use Rattle.pz_env_sound.proofs.Fresh.{IsFresh, fewer}
+use Rattle.pz_env_sound.proofs.Ancestors.{extended_same, parent_within, parent_same, parent_new, ancestors_same}
+use Rattle.pz_env_sound.proofs.NewParts.{IsFresh, fewer}
 
 named_same : (f : SystemDecl → SystemDecl) (d : DeclTree) → declared_name (grown_decl f d) ≡ declared_name d
 named_same f (data_class c) = refl

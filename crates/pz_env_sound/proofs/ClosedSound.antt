@@ -2,7 +2,6 @@
 use Rattle.std.proofs.Common.{◌≡◌, refl, sym, subst, ℕ, suc, ◌+◌, ◌≤◌, List, [], ◌∷◌, ◌++◌, length, Some, arith}
 use Rattle.std.specs.List.{Contains}
 use Rattle.pz_syntax.specs.declared.clusters.SystemDecl.{SystemDecl}
-use Rattle.pz_syntax.specs.declared.names.Id.{Id}
 use Rattle.pz_syntax.specs.Classes.{system, ModelTree}
 use Rattle.pz_classes_beginnings.specs.Beginning.{begun_all, plain_calls, all_plain_calls, statements_in, statements_in_all}
 use Rattle.pz_classes.specs.Numbers.{declaration}
@@ -16,15 +15,15 @@ use Rattle.pz_env_script.specs.declared.entry.Transfer.TheVariants.{Send, Receiv
 use Rattle.pz_env_rules.specs.Environment.{Line, lines_of}
 use Rattle.pz_env_tree.specs.EnvironmentClass.{exchange, statements, method_of, environment_class}
 use Rattle.pz_env_tree.specs.ClosedTree.{environment, closed_system, closed_tree}
-use Rattle.pz_env_sound.proofs.Ways.{first_in}
+use Rattle.pz_env_sound.proofs.WaysUp.{first_in}
 use Rattle.pz_env_sound.proofs.Openings.{grown_opens}
-use Rattle.pz_env_sound.proofs.Size.{system_declared}
+use Rattle.pz_env_sound.proofs.SystemSize.{system_declared}
 use Rattle.pz_env_sound.proofs.GrownSound.{IsNew, grown_is_sound}
 use Rattle.pz_env_sound.proofs.EnvironmentNames.{environment_apart}
 use Rattle.pz_env_sound.proofs.EnvironmentWords.{environment_words}
 use Rattle.pz_env_sound.proofs.Unrefused.{IsUnrefused}
 use Rattle.pz_env_sound.proofs.NewEnds.{new_channels}
-use Rattle.pz_env_sound.proofs.Joined.{fresh_class, gains_one, joins_new, few_lines, name_free, ends_there, new_ends, few_channels}
+use Rattle.pz_env_sound.proofs.EndsFit.{fresh_class, gains_one, joins_new, few_lines, name_free, ends_there, new_ends, few_channels}
 
 begins_waiting : (lines xs : List Line) → begun_all (statements lines xs) ≡ []
 begins_waiting lines [] = refl
@@ -66,8 +65,8 @@ module _ (m : ModelTree) (script : List Entry) (sound : IsSound m) (reached : An
     room = λ s has. (
       un.processes s has,
       (let own = un.channels s has in
-      let more = few_channels m script sound reached systems_fit un few in
-      omega (arith, own, more)),
+          let more = few_channels m script sound reached systems_fit un few in
+          omega (arith, own, more)),
     );
   }
 

@@ -1,6 +1,6 @@
 -- Classes that hold one another: where none holds itself, one more level than there are classes
 -- holds nothing more.
-use Rattle.std.proofs.Common.{◌≡◌, ◌≢◌, refl, sym, ap, ap₂, subst, ◌∙◌, ℕ, zero, suc, ◌+◌, ◌<◌, ◌≤◌, Bool, true, false, not, ◌||◌, List, [], ◌∷◌, length, Option, Some, None, IsTrue, eqb, arith, ◌⊎◌, inl, inr}
+use Rattle.std.proofs.Common.{◌≡◌, ◌≢◌, refl, sym, ap, ap₂, subst, ◌∙◌, ℕ, zero, suc, ◌+◌, ◌<◌, ◌≤◌, Bool, true, false, not, ◌||◌, List, [], ◌∷◌, length, Option, Some, None, eqb, arith}
 use Rattle.std.specs.List.{Contains, IsDistinct, AllByRecursion, list_any}
 use Rattle.std.specs.Option.{option_map_or, option_and_then}
 use Rattle.std.proofs.lemmas.Bool.{eqb-true, false≢true, and_parts}
@@ -15,8 +15,8 @@ use Rattle.pz_classes.specs.Instances.{instances, channels, instance_class}
 use Rattle.pz_classes.specs.InstanceRules.{Holds, directly, through}
 use Rattle.pz_classes.specs.SizeRules.{Totals, nothing, plus, all_of, one_of, expanded}
 use Rattle.pz_classes.specs.SoundSystem.{SystemFits}
-use Rattle.pz_env_sound.proofs.Numbered.{none_some, some_same, declared_within, class_within}
-use Rattle.pz_env_sound.proofs.Ways.{none_in, first_in, later_in}
+use Rattle.pz_env_sound.proofs.Numbers.{none_some, some_same, declared_within}
+use Rattle.pz_env_sound.proofs.WaysUp.{none_in, first_in, later_in}
 use Rattle.pz_env_sound.proofs.Instances.{class_named}
 
 apart : (c : ℕ) (xs : List ℕ) → list_any (eqb c) xs ≡ false → AllByRecursion (λ y. eqb c y ≡ false) xs

@@ -1,11 +1,11 @@
 -- Lists of which no two elements are equal, and the first elements of a list with their key.
-use Rattle.std.proofs.Common.{◌≡◌, ◌≢◌, refl, sym, ap, subst, ◌∙◌, ℕ, zero, suc, ◌<◌, ◌≤◌, Bool, true, false, not, List, [], ◌∷◌, ◌++◌, map, length, Some, IsTrue, if◌then◌else◌, slice_get, arith, ◌⊎◌, inl, inr, ⊎_elim}
+use Rattle.std.proofs.Common.{◌≡◌, ◌≢◌, refl, sym, ap, subst, ◌∙◌, ℕ, zero, suc, ◌≤◌, Bool, true, false, not, List, [], ◌∷◌, ◌++◌, map, length, Some, IsTrue, if◌then◌else◌, slice_get, arith, ◌⊎◌, inl, inr, ⊎_elim}
 use Rattle.std.specs.List.{Contains, AllByRecursion, filter}
-use Rattle.std.proofs.lemmas.Bool.{both_ways, false≢true}
+use Rattle.std.proofs.lemmas.Bool.{both_ways}
 use Rattle.pz_syntax.specs.declared.tokens.Pos.{Pos}
 use Rattle.pz_classes.specs.RepeatRules.{Repeats}
-use Rattle.pz_env_sound.proofs.Numbered.{none_some, some_same}
-use Rattle.pz_env_sound.proofs.Ways.{none_in, first_in, later_in, in_cases}
+use Rattle.pz_env_sound.proofs.Numbers.{none_some, some_same}
+use Rattle.pz_env_sound.proofs.WaysUp.{none_in, first_in, later_in, in_cases}
 
 -- each passes what all pass
 pub all_of_each : {A : Type 0} (P : A → Type 0) (xs : List A) → ((x : A) → Contains xs x → P x) → AllByRecursion P xs

@@ -1,11 +1,10 @@
 -- What the class of an environment mentions.
-use Rattle.std.proofs.Common.{◌≡◌, refl, sym, ap, subst, ◌∙◌, ℕ, zero, suc, Bool, true, false, List, [], ◌∷◌, ◌++◌, append-nil, map, length, replicate, Option, Some, None, ◌⊎◌, inl, inr}
+use Rattle.std.proofs.Common.{◌≡◌, refl, sym, ap, subst, ◌∙◌, ℕ, zero, suc, Bool, true, false, List, [], ◌∷◌, ◌++◌, append-nil, map, length, replicate, ◌⊎◌, inl, inr}
 use Rattle.std.specs.List.{Contains, AllByRecursion}
 use Rattle.std.specs.Option.{unwrap_or}
 use Rattle.std.proofs.lemmas.List.{length-replicate}
 use Rattle.pz_syntax.specs.declared.tokens.Pos.{Pos}
 use Rattle.pz_syntax.specs.declared.names.Id.{Id}
-use Rattle.pz_syntax.specs.declared.classes.Message.{Message}
 use Rattle.pz_syntax.specs.Classes.{process_class}
 use Rattle.pz_classes_mentions.specs.declared.mention.Mention.{Mention}
 use Rattle.pz_classes_mentions.specs.declared.mention.Mention.TheVariants.{Declared, Typed, Variable, Called, Port, Sent, Received}
@@ -23,7 +22,7 @@ use Rattle.pz_env_rules.specs.Environment.{Line, at_line}
 use Rattle.pz_env_rules.specs.Ends.{named_at}
 use Rattle.pz_env_tree.specs.Names.{class_name, method_name, variable_name, kind_name, port_of}
 use Rattle.pz_env_tree.specs.EnvironmentClass.{named, is_sent, first_messages, unless_none, message_of, literal_of, literals, arguments, exchange, statements, method_of, environment_class}
-use Rattle.pz_env_sound.proofs.Ways.{none_in, first_in, later_in, in_cases}
+use Rattle.pz_env_sound.proofs.WaysUp.{none_in, first_in, later_in, in_cases}
 use Rattle.pz_env_sound.proofs.Distinct.{each_of_all, all_both}
 use Rattle.pz_env_sound.proofs.Ports.{message_in}
 
@@ -96,16 +95,20 @@ module _ (lines : List Line) where
       → AllByRecursion (IsSaid lines) (statement.mentioned (exchange lines x t) ++ rest)
   exchange_said x has (Send vs) is rest all = (
     port x has,
-    (sent x (count_written (arguments (at_line x) vs)) has (ap is_sent is) (arguments_counted (at_line x) vs ∙ sym (ap count_in is)),
-    subst (λ (xs : List Mention). AllByRecursion (IsSaid lines) ((xs ++ []) ++ rest)) (sym (in_arguments (at_line x) vs)) all),
+    (
+      sent x (count_written (arguments (at_line x) vs)) has (ap is_sent is) (arguments_counted (at_line x) vs ∙ sym (ap count_in is)),
+      subst (λ (xs : List Mention). AllByRecursion (IsSaid lines) ((xs ++ []) ++ rest)) (sym (in_arguments (at_line x) vs)) all,
+    ),
   )
   exchange_said x has (Receive n) is rest all = (
     port x has,
-    (received x (length (received_names (unless_none (replicate n (named_at x variable_name))))) has (ap is_sent is)
-    (ap length (received_all (replicate n (named_at x variable_name))) ∙ length-replicate n (named_at x variable_name) ∙ sym (ap count_in is)),
-    subst (λ (ids : List Id). AllByRecursion (IsSaid lines) ((variables ids ++ []) ++ rest)) (sym (received_all (replicate n (named_at x variable_name))))
-    (subst (λ (xs : List Mention). AllByRecursion (IsSaid lines) (xs ++ rest)) (sym (append-nil (variables (replicate n (named_at x variable_name)))))
-    (all_both (IsSaid lines) (variables (replicate n (named_at x variable_name))) rest (variables_said n (named_at x variable_name) refl) all))),
+    (
+      received x (length (received_names (unless_none (replicate n (named_at x variable_name))))) has (ap is_sent is)
+          (ap length (received_all (replicate n (named_at x variable_name))) ∙ length-replicate n (named_at x variable_name) ∙ sym (ap count_in is)),
+      subst (λ (ids : List Id). AllByRecursion (IsSaid lines) ((variables ids ++ []) ++ rest)) (sym (received_all (replicate n (named_at x variable_name))))
+          (subst (λ (xs : List Mention). AllByRecursion (IsSaid lines) (xs ++ rest)) (sym (append-nil (variables (replicate n (named_at x variable_name)))))
+          (all_both (IsSaid lines) (variables (replicate n (named_at x variable_name))) rest (variables_said n (named_at x variable_name) refl) all)),
+    ),
   )
 
   statements_said : (xs : List Line) → ((x : Line) → Contains xs x → Contains lines x) → AllByRecursion (IsSaid lines) (mentioned_statements (statements lines xs))
@@ -118,7 +121,7 @@ module _ (lines : List Line) where
   head_said = (
     declared,
     all_both (IsSaid lines) (mentioned_messages (map (message_of lines) (first_messages lines))) (Typed (named kind_name) ∷ Called (named method_name) 0 0 ∷ [])
-    (messages_said (first_messages lines) (message_in lines)) (typed (named kind_name) refl, (called, tt)),
+        (messages_said (first_messages lines) (message_in lines)) (typed (named kind_name) refl, (called, tt)),
   )
 
   method_said : AllByRecursion (IsSaid lines) (process_method (method_of lines)).mentions

@@ -1,5 +1,5 @@
 -- The class of an environment declares nothing twice.
-use Rattle.std.proofs.Common.{◌≡◌, refl, sym, ap, ap₂, subst, ◌∙◌, ℕ, ◌≤◌, Bool, true, false, ◌&&◌, nat_eq, List, [], ◌∷◌, map, length, replicate, Option, Some, None, IsTrue, arith, ◌⊎◌, inl, inr, ⊎_elim}
+use Rattle.std.proofs.Common.{◌≡◌, refl, sym, ap, subst, ◌∙◌, ℕ, ◌≤◌, Bool, true, false, ◌&&◌, nat_eq, List, [], ◌∷◌, map, length, replicate, IsTrue, arith, ◌⊎◌, inl, inr}
 use Rattle.std.specs.List.{Contains}
 use Rattle.std.specs.Bool.{beq}
 use Rattle.std.specs.Option.{unwrap_or}
@@ -12,19 +12,17 @@ use Rattle.pz_syntax.specs.declared.classes.Message.{Message}
 use Rattle.pz_syntax.specs.Classes.{process_class}
 use Rattle.pz_classes_mentions.specs.declared.local_scope.LocalScope.{LocalScope}
 use Rattle.pz_classes_mentions.specs.Declarations.{parts, process_head, process_method}
-use Rattle.pz_classes.specs.Members.{own_variables, own_ports}
-use Rattle.pz_classes.specs.CallRules.{own_messages}
-use Rattle.pz_classes.specs.RepeatRules.{Repeats, same_name, RepeatsName, Heading, headings, process_heading, same_heading, same_message}
+use Rattle.pz_classes.specs.RepeatRules.{same_name, RepeatsName, Heading, process_heading, same_heading, same_message}
 use Rattle.pz_env_script.specs.Entries.{count_in}
 use Rattle.pz_env_rules.specs.Environment.{Line}
 use Rattle.pz_env_rules.specs.Ends.{first_mentions, named_at}
 use Rattle.pz_env_tree.specs.Names.{variable_name, kind_name, port_of}
 use Rattle.pz_env_tree.specs.EnvironmentClass.{named, is_sent, first_messages, unless_none, message_of, method_of, environment_class}
-use Rattle.pz_env_sound.proofs.Ways.{none_in, in_cases}
-use Rattle.pz_env_sound.proofs.Repeating.{none_repeats, one_repeats}
+use Rattle.pz_env_sound.proofs.WaysUp.{none_in, in_cases}
+use Rattle.pz_env_sound.proofs.RepeatsInParts.{none_repeats, one_repeats}
 use Rattle.pz_env_sound.proofs.RepeatedNames.{IsApart}
 use Rattle.pz_env_sound.proofs.Distinct.{AreApart, no_repeat, apart_by}
-use Rattle.pz_env_sound.proofs.Ports.{EndKey, end_key, same_bytes, Said, said, mentions_apart, messages_apart, mention_in, message_in, port_tells}
+use Rattle.pz_env_sound.proofs.Ports.{EndKey, end_key, same_bytes, said, mentions_apart, messages_apart, mention_in, message_in, port_tells}
 
 pub counted : {A : Type 0} (n : ℕ) (x : A) → length (unwrap_or (unless_none (replicate n x)) []) ≡ n
 counted {A} n x = by (replicate n x) ∙ many n

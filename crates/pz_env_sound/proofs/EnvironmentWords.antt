@@ -1,17 +1,16 @@
 -- The words of the class of an environment break no rule.
-use Rattle.std.proofs.Common.{◌≡◌, refl, sym, ap, ap₂, subst, ◌∙◌, ℕ, suc, Bool, true, false, not, ◌&&◌, ◌||◌, nat_eq, List, [], ◌∷◌, map, length, replicate, Option, Some, None, arith, ◌⊎◌, inl, inr}
+use Rattle.std.proofs.Common.{◌≡◌, refl, sym, ap, subst, ◌∙◌, ℕ, suc, Bool, true, false, not, ◌&&◌, ◌||◌, nat_eq, List, [], ◌∷◌, map, length, Option, arith, ◌⊎◌, inl, inr}
 use Rattle.std.specs.List.{Contains, list_any}
 use Rattle.std.specs.Bool.{beq}
-use Rattle.std.specs.Option.{is_none, option_map, unwrap_or}
+use Rattle.std.specs.Option.{is_none, unwrap_or}
 use Rattle.std.specs.Str.{bytes_eq}
 use Rattle.std.proofs.lemmas.Bool.{and_from, or_left, or_right, not_from_true}
 use Rattle.std.proofs.lemmas.Bool.Decides.{nat_tests}
 use Rattle.pz_syntax.specs.declared.names.Id.{Id}
-use Rattle.pz_syntax.specs.declared.classes.Message.{Message}
 use Rattle.pz_syntax.specs.declared.clusters.SystemDecl.{SystemDecl}
 use Rattle.pz_syntax.specs.Classes.{StartTree, process_class, ModelTree}
 use Rattle.pz_classes_mentions.specs.declared.mention.Mention.{Mention}
-use Rattle.pz_classes_mentions.specs.declared.mention.Mention.TheVariants.{Declared, Typed, Variable, Called, Port, Sent, Received}
+use Rattle.pz_classes_mentions.specs.declared.mention.Mention.TheVariants.{Declared, Typed, Variable, Called}
 use Rattle.pz_classes_mentions.specs.declared.local_scope.LocalScope.{LocalScope}
 use Rattle.pz_classes_mentions.specs.Declarations.{parts}
 use Rattle.pz_classes_code.specs.ReservedNames.{is_unsupported}
@@ -21,19 +20,19 @@ use Rattle.pz_classes.specs.Members.{ports}
 use Rattle.pz_classes.specs.Words.{is_among}
 use Rattle.pz_classes.specs.Reached.{AncestorsAreReached}
 use Rattle.pz_classes.specs.NameRules.{is_type, breaks_c5, breaks_c6}
-use Rattle.pz_classes.specs.CallRules.{breaks_c7, breaks_c9, is_message, messages, breaks_c10, breaks_c11}
+use Rattle.pz_classes.specs.CallRules.{breaks_c7, is_message, messages, breaks_c11}
 use Rattle.pz_classes.specs.Soundness.{IsSound}
 use Rattle.pz_env_script.specs.Entries.{count_in}
 use Rattle.pz_env_rules.specs.Environment.{Line}
 use Rattle.pz_env_rules.specs.Ends.{first_mentions, named_at}
 use Rattle.pz_env_tree.specs.Names.{class_name, method_name, variable_name, kind_name, port_of}
 use Rattle.pz_env_tree.specs.EnvironmentClass.{named, is_sent, first_messages, message_of, environment_class}
-use Rattle.pz_env_sound.proofs.Ways.{none_in, in_cases}
+use Rattle.pz_env_sound.proofs.WaysUp.{none_in, in_cases}
 use Rattle.pz_env_sound.proofs.Grown.{grown}
-use Rattle.pz_env_sound.proofs.Owned.{variables_new, ports_new, messages_new, start_new, method_new}
-use Rattle.pz_env_sound.proofs.Fresh.{IsFresh}
+use Rattle.pz_env_sound.proofs.Members.{variables_new, ports_new, messages_new, start_new, method_new}
+use Rattle.pz_env_sound.proofs.NewParts.{IsFresh}
 use Rattle.pz_env_sound.proofs.KeptWords.{broken, NoneHolds}
-use Rattle.pz_env_sound.proofs.Ports.{bytes_same, Said, said, mentioned_first, said_first, port_told}
+use Rattle.pz_env_sound.proofs.Ports.{bytes_same, Said, mentioned_first, said_first, port_told}
 use Rattle.pz_env_sound.proofs.EnvironmentNames.{counted}
 use Rattle.pz_env_sound.proofs.EnvironmentMentions.{IsSaid, declared, typed, called, variable, port, sent, received, each_said}
 

@@ -1,6 +1,6 @@
 -- A model whose system is given more, and that declares one more process class behind all others:
 -- which number and which name is whose.
-use Rattle.std.proofs.Common.{◌≡◌, ◌≢◌, refl, sym, ap, ◌∙◌, ℕ, zero, suc, ◌+◌, ◌<◌, ◌≤◌, Bool, true, false, List, [], ◌∷◌, ◌++◌, map, length, Option, Some, None, slice_get, if◌then◌else◌, arith, ◌⊎◌, inl, inr}
+use Rattle.std.proofs.Common.{◌≡◌, ◌≢◌, refl, sym, ap, ◌∙◌, ℕ, zero, suc, ◌+◌, Bool, true, false, List, [], ◌∷◌, ◌++◌, map, length, Option, Some, None, slice_get, arith}
 use Rattle.std.specs.Option.{option_map, option_map_or, option_and_then}
 use Rattle.std.specs.Str.{bytes_eq}
 use Rattle.std.proofs.lemmas.Bool.{false≢true}
@@ -9,7 +9,7 @@ use Rattle.pz_syntax.specs.declared.clusters.SystemDecl.{SystemDecl}
 use Rattle.pz_syntax.specs.Classes.{DeclTree, ProcessClassTree, data_class, process_class, cluster_class, system, ModelTree}
 use Rattle.pz_classes.specs.Numbers.{is_named, declaration, first_named, class}
 use Rattle.pz_classes.specs.Kinds.{is_data, is_process, is_cluster, is_declared_as}
-use Rattle.pz_env_sound.proofs.Numbered.{none_some, some_same, declared_within}
+use Rattle.pz_env_sound.proofs.Numbers.{none_some, some_same, declared_within}
 
 abbrev pub grown_decl : (SystemDecl → SystemDecl) → DeclTree → DeclTree
 grown_decl f (data_class c) = data_class c

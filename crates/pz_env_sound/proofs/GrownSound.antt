@@ -20,14 +20,14 @@ use Rattle.pz_classes.specs.Reached.{AncestorsAreReached}
 use Rattle.pz_classes.specs.SoundSystem.{SoundSystemsFit}
 use Rattle.pz_classes.specs.Soundness.{Breaks, a_word, a_repeat, given, holding, an_end, two_ends, size, the_system, IsSound}
 use Rattle.pz_env_sound.proofs.Grown.{grown}
-use Rattle.pz_env_sound.proofs.Fresh.{IsFresh, Gains}
+use Rattle.pz_env_sound.proofs.NewParts.{IsFresh, Gains}
 use Rattle.pz_env_sound.proofs.ClassRules.{no_class}
 use Rattle.pz_env_sound.proofs.KeptWords.{broken, NoneHolds}
 use Rattle.pz_env_sound.proofs.Words.{no_word}
 use Rattle.pz_env_sound.proofs.RepeatedNames.{IsApart, no_repeat}
 use Rattle.pz_env_sound.proofs.Instances.{each_is_given, none_holds_itself}
 use Rattle.pz_env_sound.proofs.Channels.{Joins, ends_of, AreNewEnds, each_end_is_there, no_end_twice}
-use Rattle.pz_env_sound.proofs.Size.{not_too_large, one_system}
+use Rattle.pz_env_sound.proofs.SystemSize.{not_too_large, one_system}
 
 module _ (f : SystemDecl → SystemDecl) (e : ProcessClassTree) (i : Instance) (more : List Channel) (m : ModelTree) (gains : Gains f e i) (joins : Joins f more) (sound : IsSound m) (reached : AncestorsAreReached) (fresh : IsFresh m e) (systems_fit : SoundSystemsFit) where
   -- what is asked of what is new

@@ -1,11 +1,10 @@
 -- The instances of a grown model: those that were there, and one of the new class. C14 and C15.
-use Rattle.std.proofs.Common.{◌≡◌, ◌≢◌, refl, sym, ap, ap₂, subst, ◌∙◌, ℕ, suc, ◌<◌, Bool, true, false, not, ◌&&◌, ◌||◌, List, [], ◌∷◌, ◌++◌, map, length, Option, Some, None, IsTrue, if◌then◌else◌, arith, ◌⊎◌, inl, inr, ⊎_elim}
+use Rattle.std.proofs.Common.{◌≡◌, ◌≢◌, refl, sym, ap, ap₂, subst, ◌∙◌, ℕ, suc, ◌<◌, Bool, true, false, List, [], ◌∷◌, map, length, Option, Some, None, IsTrue, if◌then◌else◌, arith, ◌⊎◌, inl, inr, ⊎_elim}
 use Rattle.std.specs.List.{Contains}
 use Rattle.std.specs.Option.{unwrap_or}
 use Rattle.std.proofs.lemmas.Bool.{both_ways, false≢true}
 use Rattle.std.proofs.lemmas.List.Elements.{Contains-append_cases}
 use Rattle.pz_syntax.specs.declared.names.Id.{Id}
-use Rattle.pz_syntax.specs.declared.classes.VarGroup.{VarGroup}
 use Rattle.pz_syntax.specs.declared.clusters.Given.{Given}
 use Rattle.pz_syntax.specs.declared.clusters.Instance.{Instance}
 use Rattle.pz_syntax.specs.declared.clusters.SystemDecl.{SystemDecl}
@@ -22,11 +21,11 @@ use Rattle.pz_classes.specs.Instances.{instances, instance_class, parameters}
 use Rattle.pz_classes.specs.InstanceRules.{given_names, gives_each, BreaksC14, ill_given, Holds, directly, through, BreaksC15, holds_itself}
 use Rattle.pz_classes.specs.SoundSystem.{SoundSystemsFit, InstanceFits}
 use Rattle.pz_classes.specs.Soundness.{IsSound, given, holding}
-use Rattle.pz_env_sound.proofs.Numbered.{none_some, some_same, class_within}
-use Rattle.pz_env_sound.proofs.Ways.{none_in, in_cases}
+use Rattle.pz_env_sound.proofs.Numbers.{none_some, some_same, class_within}
+use Rattle.pz_env_sound.proofs.WaysUp.{none_in, in_cases}
 use Rattle.pz_env_sound.proofs.Grown.{grown_decl, grown, IsDeclared, old, new, declared, declared_other, class_kept, class_new, cluster_same}
-use Rattle.pz_env_sound.proofs.Owned.{parameters_same, parameters_new}
-use Rattle.pz_env_sound.proofs.Fresh.{IsFresh, Gains}
+use Rattle.pz_env_sound.proofs.Members.{parameters_same, parameters_new}
+use Rattle.pz_env_sound.proofs.NewParts.{IsFresh, Gains}
 use Rattle.pz_env_sound.proofs.KeptWords.{instances_kept}
 use Rattle.pz_env_sound.proofs.Words.{new_has_instances}
 

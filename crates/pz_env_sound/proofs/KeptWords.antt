@@ -1,8 +1,8 @@
 -- A word of a class that was there breaks no rule in a grown model that it does not break before.
-use Rattle.std.proofs.Common.{◌≡◌, ◌≢◌, refl, sym, ap, ap₂, ◌∙◌, ℕ, suc, Bool, true, false, not, ◌&&◌, ◌||◌, List, [], ◌∷◌, ◌++◌, map, length, Option, Some, if◌then◌else◌}
-use Rattle.std.specs.Option.{is_none, unwrap_or}
+use Rattle.std.proofs.Common.{◌≡◌, ◌≢◌, refl, ap, ◌∙◌, ℕ, suc, Bool, true, false, not, ◌&&◌, ◌||◌, List, [], ◌∷◌, ◌++◌, map, length, Option, if◌then◌else◌}
+use Rattle.std.specs.Option.{is_none}
 use Rattle.std.specs.List.{list_any, AllByRecursion}
-use Rattle.std.proofs.lemmas.Bool.{false≢true, or_left, or_right, not-false, not-true}
+use Rattle.std.proofs.lemmas.Bool.{false≢true}
 use Rattle.pz_syntax.specs.declared.names.Id.{Id}
 use Rattle.pz_syntax.specs.declared.classes.Message.{Message}
 use Rattle.pz_syntax.specs.declared.clusters.SystemDecl.{SystemDecl}
@@ -12,18 +12,16 @@ use Rattle.pz_classes_mentions.specs.declared.mention.Mention.TheVariants.{Decla
 use Rattle.pz_classes_code.specs.ReservedNames.{is_primitive, is_unsupported, is_array}
 use Rattle.pz_classes.specs.declared.method_id.MethodId.{MethodId}
 use Rattle.pz_classes.specs.declared.method_id.Counts.TheVariants.{Data, Process}
-use Rattle.pz_classes.specs.Numbers.{declaration}
 use Rattle.pz_classes.specs.Kinds.{is_data, is_process, is_cluster, is_declared_as}
-use Rattle.pz_classes.specs.Members.{fields, variables, ports}
-use Rattle.pz_classes.specs.Methods.{Signature, same_signature, signatures, method_with, process_method}
+use Rattle.pz_classes.specs.Methods.{Signature, same_signature, signatures}
 use Rattle.pz_classes.specs.Reached.{AncestorsAreReached}
 use Rattle.pz_classes.specs.NameRules.{is_type, breaks_c5, shared, breaks_c6, may_create, breaks_c12, has_instances, breaks_c13, breaks_c18, breaks_c21, breaks_c22}
-use Rattle.pz_classes.specs.CallRules.{is_primitive_selector, is_declared, breaks_c7, breaks_c8, breaks_c9, is_message, messages, breaks_c10, start, breaks_c11}
+use Rattle.pz_classes.specs.CallRules.{is_primitive_selector, is_declared, breaks_c7, breaks_c8, breaks_c9, is_message, breaks_c10, start, breaks_c11}
 use Rattle.pz_classes.specs.Words.{is_among}
 use Rattle.pz_classes.specs.Soundness.{IsSound}
 use Rattle.pz_env_sound.proofs.Grown.{grown_decl, grown, sort_kept, data_same, process_same, cluster_same}
-use Rattle.pz_env_sound.proofs.Owned.{signatures_kept, fields_same, variables_same, ports_same, messages_same, start_same, method_same}
-use Rattle.pz_env_sound.proofs.Fresh.{fewer, either}
+use Rattle.pz_env_sound.proofs.Members.{signatures_kept, fields_same, variables_same, ports_same, messages_same, start_same, method_same}
+use Rattle.pz_env_sound.proofs.NewParts.{fewer, either}
 
 -- which rules a word breaks
 abbrev pub broken : ModelTree → ℕ → DeclTree → List Id → Mention → List Bool
@@ -120,6 +118,25 @@ module _ (f : SystemDecl → SystemDecl) (e : ProcessClassTree) (m : ModelTree) 
     c11_kept was _ is = refl
 
     pub words_kept : (was : DeclTree) (locals : List Id) (x : Mention) → NoneHolds (broken m c was locals x) → NoneHolds (broken (grown m f e) c (grown_decl f was) locals x)
-    words_kept was locals x (b5, (b6, (b7, (b8, (b9, (b10, (b11, (b12, (b13, (b18, (b21, (b22, _)))))))))))) =
-        (c5_kept x b5, (c6_kept was locals x b6, (c7_kept x b7, (c8_kept x b8, (c9_kept x b9, (c10_kept x b10, (c11_kept was x b11,
-        (c12_kept x b12, (c13_kept x b13, (b18, (c21_kept was x b21, (c22_kept was x b22, tt))))))))))))
+    words_kept was locals x (b5, (b6, (b7, (b8, (b9, (b10, (b11, (b12, (b13, (b18, (b21, (b22, _)))))))))))) = (
+      c5_kept x b5,
+      (
+        c6_kept was locals x b6,
+        (
+          c7_kept x b7,
+          (
+            c8_kept x b8,
+            (
+              c9_kept x b9,
+              (
+                c10_kept x b10,
+                (
+                  c11_kept was x b11,
+                  (c12_kept x b12, (c13_kept x b13, (b18, (c21_kept was x b21, (c22_kept was x b22, tt))))),
+                ),
+              ),
+            ),
+          ),
+        ),
+      ),
+    )

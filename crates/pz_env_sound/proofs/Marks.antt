@@ -1,28 +1,22 @@
 -- How many marks the text of a closed tree has.
-use Rattle.std.proofs.Common.{◌≡◌, refl, sym, ap, ap₂, subst, ◌∙◌, ℕ, zero, suc, ◌+◌, ◌*◌, ◌≤◌, List, [], ◌∷◌, ◌++◌, map, length, length-append, replicate, Option, Some, None, arith, ◌⊎◌, inl, inr}
-use Rattle.std.specs.List.{Contains, flat_map}
+use Rattle.std.proofs.Common.{◌≡◌, subst, ℕ, suc, ◌+◌, ◌*◌, ◌≤◌, List, [], ◌∷◌, ◌++◌, map, length, length-append, replicate, Option, Some, None, arith}
+use Rattle.std.specs.List.{Contains}
 use Rattle.std.specs.Option.{unwrap_or}
 use Rattle.std.proofs.lemmas.List.{length-map, length-replicate}
 use Rattle.pz_syntax.specs.declared.tokens.Symbol.{Symbol}
 use Rattle.pz_syntax.specs.declared.tokens.Symbol.TheVariants as s
 use Rattle.pz_syntax.specs.declared.tokens.Keyword.{Keyword}
-use Rattle.pz_syntax.specs.declared.tokens.Keyword.TheVariants as k
 use Rattle.pz_syntax.specs.declared.tokens.Mark.{Mark}
 use Rattle.pz_syntax.specs.declared.tokens.Pos.{Pos}
 use Rattle.pz_syntax.specs.declared.names.Id.{Id}
 use Rattle.pz_syntax.specs.declared.classes.Message.{Message}
-use Rattle.pz_syntax.specs.declared.clusters.Instance.{Instance}
-use Rattle.pz_syntax.specs.declared.clusters.Channel.{Channel}
-use Rattle.pz_syntax.specs.declared.clusters.SystemDecl.{SystemDecl}
 use Rattle.pz_syntax.specs.Marks.{symbol, section, separated, tail_separated, each_text, optional, word_text, names_text}
 use Rattle.pz_syntax.specs.ExpressionText as expression
 use Rattle.pz_syntax.specs.ExpressionText.{arguments_text}
 use Rattle.pz_syntax.specs.StatementText as statement
 use Rattle.pz_syntax.specs.StatementText.{reception_text}
-use Rattle.pz_syntax.specs.ClassText.{types_text, message_text, messages_text, process_method_text, process_class_text}
-use Rattle.pz_syntax.specs.ModelText.{instance_text, channel_text, system_text, decl_text, text}
-use Rattle.pz_syntax.specs.Classes.{DeclTree, ProcessClassTree, data_class, process_class, cluster_class, system, ModelTree}
-use Rattle.pz_classes.specs.SizeRules.{system_of, systems}
+use Rattle.pz_syntax.specs.ClassText.{types_text, message_text, messages_text, process_class_text}
+use Rattle.pz_syntax.specs.ModelText.{text}
 use Rattle.pz_value.specs.declared.value.Value.{Value}
 use Rattle.pz_env_script.specs.declared.entry.Transfer.{Transfer}
 use Rattle.pz_env_script.specs.declared.entry.Transfer.TheVariants.{Send, Receive}
@@ -30,12 +24,10 @@ use Rattle.pz_env_script.specs.Entries.{count_in}
 use Rattle.pz_env_rules.specs.Environment.{Line, at_line}
 use Rattle.pz_env_rules.specs.Ends.{first_mentions, named_at}
 use Rattle.pz_env_tree.specs.Names.{port_of, variable_name, kind_name}
-use Rattle.pz_env_tree.specs.EnvironmentClass.{unless_none, message_of, literals, arguments, exchange, statements, method_of, environment_class, first_messages}
-use Rattle.pz_env_tree.specs.ClosedTree.{environment, channel_of, closed_system, closed_by}
-use Rattle.pz_env_sound.proofs.Ways.{none_in, first_in, later_in}
-use Rattle.pz_env_sound.proofs.Grown.{grown_decl, grown}
+use Rattle.pz_env_tree.specs.EnvironmentClass.{unless_none, message_of, literals, arguments, exchange, statements, environment_class, first_messages}
+use Rattle.pz_env_sound.proofs.WaysUp.{first_in, later_in}
 use Rattle.pz_env_sound.proofs.Ports.{few_mentions, few_messages, message_in}
-use Rattle.pz_env_sound.proofs.NewEnds.{from_map, new_channels}
+use Rattle.pz_env_sound.proofs.NewEnds.{from_map}
 
 -- Lists of things of at most so many marks
 

@@ -1,21 +1,19 @@
 -- The ends that lines name, what lines say over them, and the ports of an environment.
-use Rattle.std.proofs.Common.{◌≡◌, ◌≢◌, refl, sym, ap, ap₂, subst, ◌∙◌, ℕ, zero, suc, ◌+◌, ◌<◌, ◌≤◌, ◌^◌, Bool, true, false, not, ◌&&◌, ◌==◌, List, [], ◌∷◌, ◌++◌, map, drop, length, Option, Some, None, slice_get, if◌then◌else◌, codes, arith, lit≤, lt_of_lt_of_le, ◌⊎◌, inl, inr}
+use Rattle.std.proofs.Common.{◌≡◌, refl, sym, ap, ap₂, subst, ◌∙◌, ℕ, suc, ◌+◌, ◌<◌, ◌≤◌, ◌^◌, Bool, true, false, not, ◌&&◌, ◌==◌, List, [], ◌∷◌, drop, length, Some, slice_get, if◌then◌else◌, arith, lit≤, lt_of_lt_of_le, ◌⊎◌, inl, inr}
 use Rattle.std.specs.List.{Contains, filter, position_or_len}
 use Rattle.std.specs.Str.{bytes_eq}
-use Rattle.std.specs.Fmt.{decimal}
 use Rattle.std.proofs.lemmas.Bool.{and_parts, and_from, eqb-true, eq-eqb, both_ways}
 use Rattle.std.proofs.lemmas.Fmt.{decimal_injective}
 use Rattle.std.proofs.lemmas.Option.{slice_get_within}
 use Rattle.std.proofs.lemmas.Slice.Eq.{bytes_eq-Decides}
-use Rattle.pz_syntax.specs.declared.names.Id.{Id}
 use Rattle.pz_env_script.specs.Entries.{count_in}
 use Rattle.pz_env_rules.specs.Environment.{Line}
 use Rattle.pz_env_rules.specs.Ends.{is_same_end, first_mentions}
 use Rattle.pz_env_tree.specs.Names.{end_number, port_name, port_of}
 use Rattle.pz_env_tree.specs.EnvironmentClass.{is_sent, is_same_way, is_same_message, first_messages}
-use Rattle.pz_env_sound.proofs.Numbered.{none_some, some_same}
-use Rattle.pz_env_sound.proofs.Ways.{none_in, in_cases}
-use Rattle.pz_env_sound.proofs.Distinct.{AreApart, firsts, firsts_apart, HasFirst, has_first, few_firsts, from_all}
+use Rattle.pz_env_sound.proofs.Numbers.{some_same}
+use Rattle.pz_env_sound.proofs.WaysUp.{none_in, in_cases}
+use Rattle.pz_env_sound.proofs.Distinct.{AreApart, firsts, firsts_apart, has_first, few_firsts, from_all}
 
 -- the end of a line
 abbrev pub EndKey : Type 0

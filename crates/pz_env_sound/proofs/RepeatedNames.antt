@@ -1,7 +1,6 @@
 -- C4 in a grown model.
-use Rattle.std.proofs.Common.{◌≡◌, ◌≢◌, refl, sym, ap, subst, ◌∙◌, ℕ, suc, Bool, List, [], ◌∷◌, ◌++◌, map, length, Some, IsTrue, arith, ◌⊎◌, inl, inr, ⊎_elim}
+use Rattle.std.proofs.Common.{◌≡◌, ◌≢◌, refl, sym, ap, subst, ◌∙◌, ℕ, suc, List, [], ◌∷◌, ◌++◌, map, length, Some, IsTrue, ◌⊎◌, inl, inr, ⊎_elim}
 use Rattle.std.specs.List.{Contains}
-use Rattle.std.specs.Option.{unwrap_or}
 use Rattle.std.proofs.lemmas.Bool.{cases_eq}
 use Rattle.std.proofs.lemmas.List.{map-append}
 use Rattle.pz_syntax.specs.declared.names.Id.{Id}
@@ -20,11 +19,11 @@ use Rattle.pz_classes.specs.Instances.{instances}
 use Rattle.pz_classes.specs.CallRules.{own_messages}
 use Rattle.pz_classes.specs.RepeatRules.{Repeats, same_name, RepeatsName, Heading, headings, same_heading, same_message, BreaksC4, again_field, again_variable, again_port, again_local, again_instance, again_method, again_message}
 use Rattle.pz_classes.specs.Soundness.{IsSound, a_repeat}
-use Rattle.pz_env_sound.proofs.Ways.{none_in, in_cases}
-use Rattle.pz_env_sound.proofs.Grown.{grown_decl, grown, IsDeclared, old, new, declared, declared_other}
-use Rattle.pz_env_sound.proofs.Owned.{messages_kept, fields_same, variables_same, ports_same, fields_new, variables_new, ports_new}
-use Rattle.pz_env_sound.proofs.Fresh.{IsFresh, Gains}
-use Rattle.pz_env_sound.proofs.Repeating.{in_parts, none_repeats, one_repeats}
+use Rattle.pz_env_sound.proofs.WaysUp.{none_in, in_cases}
+use Rattle.pz_env_sound.proofs.Grown.{grown_decl, grown, IsDeclared, old, new, declared}
+use Rattle.pz_env_sound.proofs.Members.{messages_kept, fields_same, variables_same, ports_same, fields_new, variables_new, ports_new}
+use Rattle.pz_env_sound.proofs.NewParts.{IsFresh, Gains}
+use Rattle.pz_env_sound.proofs.RepeatsInParts.{in_parts, none_repeats, one_repeats}
 
 -- nothing is declared twice in the class
 pub record IsApart (e : ProcessClassTree) : Type 0 where

@@ -1,9 +1,9 @@
 -- The words of a grown model: those that were there, the class of the instance that is new, and those of
 -- the class that is new. None breaks a rule.
-use Rattle.std.proofs.Common.{◌≡◌, ◌≢◌, refl, sym, ap, subst, ◌∙◌, ℕ, suc, Bool, true, false, not, ◌&&◌, ◌||◌, List, [], ◌∷◌, ◌++◌, append-nil, length, Option, Some, None, IsTrue, arith, ◌⊎◌, inl, inr}
-use Rattle.std.specs.List.{Contains, flat_map}
+use Rattle.std.proofs.Common.{◌≡◌, refl, sym, ap, subst, ◌∙◌, ℕ, suc, Bool, true, false, not, ◌&&◌, ◌||◌, List, [], ◌∷◌, ◌++◌, append-nil, length, Option, Some, IsTrue, arith, ◌⊎◌, inl, inr}
+use Rattle.std.specs.List.{Contains}
 use Rattle.std.specs.Option.{option_map_or, option_and_then, unwrap_or}
-use Rattle.std.proofs.lemmas.Bool.{both_ways, false_from_ne_true, or_left, and_left}
+use Rattle.std.proofs.lemmas.Bool.{both_ways, false_from_ne_true, or_left}
 use Rattle.std.proofs.lemmas.Grind.{flat_map-append}
 use Rattle.std.proofs.lemmas.List.Elements.{Contains-append_cases}
 use Rattle.pz_syntax.specs.declared.names.Id.{Id}
@@ -17,7 +17,7 @@ use Rattle.pz_classes_mentions.specs.declared.local_scope.LocalScope.{LocalScope
 use Rattle.pz_classes_mentions.specs.Declarations.{parts, mentioned_instance, mentioned_instances, mentioned_givens, system_part}
 use Rattle.pz_check_violations.specs.declared.violation.Violation.{Violation}
 use Rattle.pz_check_violations.specs.Order.{violation}
-use Rattle.pz_classes_code.specs.ReservedNames.{is_unsupported, is_primitive}
+use Rattle.pz_classes_code.specs.ReservedNames.{is_unsupported}
 use Rattle.pz_classes.specs.Numbers.{declaration, class}
 use Rattle.pz_classes.specs.Kinds.{is_process, is_cluster, is_declared_as}
 use Rattle.pz_classes.specs.Reached.{AncestorsAreReached}
@@ -26,26 +26,46 @@ use Rattle.pz_classes.specs.CallRules.{breaks_c7, breaks_c8, breaks_c9, breaks_c
 use Rattle.pz_classes.specs.Words.{Mentions, place}
 use Rattle.pz_classes.specs.WordRules.{BreaksWord, c5, c6, c7, c8, c9, c10, c11, c12, c13, c18, c21, c22}
 use Rattle.pz_classes.specs.Soundness.{IsSound, a_word}
-use Rattle.pz_env_sound.proofs.Ways.{none_in, in_cases}
+use Rattle.pz_env_sound.proofs.WaysUp.{none_in, in_cases}
 use Rattle.pz_env_sound.proofs.Grown.{grown_decl, grown, IsDeclared, old, new, declared, declared_other, declaration_new, class_new}
-use Rattle.pz_env_sound.proofs.Fresh.{IsFresh, Gains}
+use Rattle.pz_env_sound.proofs.NewParts.{IsFresh, Gains}
 use Rattle.pz_env_sound.proofs.KeptWords.{broken, NoneHolds, words_kept}
 
 -- what a sound model says of its words
 pub sound_words : (m : ModelTree) → IsSound m → (c : ℕ) (d : DeclTree) (p : LocalScope) (x : Mention) → Mentions m c d p x → NoneHolds (broken m c d p.locals x)
 sound_words m sound c d p x there = (
   holds (breaks_c5 m x) 5 (λ h. c5 c d p x there h),
-  (holds (breaks_c6 m c d p.locals x) 6 (λ h. c6 c d p x there h),
-  (holds (breaks_c7 m c x) 7 (λ h. c7 c d p x there h),
-  (holds (breaks_c8 m x) 8 (λ h. c8 c d p x there h),
-  (holds (breaks_c9 m c x) 9 (λ h. c9 c d p x there h),
-  (holds (breaks_c10 m c x) 10 (λ h. c10 c d p x there h),
-  (holds (breaks_c11 m c d x) 11 (λ h. c11 c d p x there h),
-  (holds (breaks_c12 m x) 12 (λ h. c12 c d p x there h),
-  (holds (breaks_c13 m x) 13 (λ h. c13 c d p x there h),
-  (holds (breaks_c18 x) 18 (λ h. c18 c d p x there h),
-  (holds (breaks_c21 d x) 21 (λ h. c21 c d p x there h),
-  (holds (breaks_c22 d x) 22 (λ h. c22 c d p x there h), tt))))))))))),
+  (
+    holds (breaks_c6 m c d p.locals x) 6 (λ h. c6 c d p x there h),
+    (
+      holds (breaks_c7 m c x) 7 (λ h. c7 c d p x there h),
+      (
+        holds (breaks_c8 m x) 8 (λ h. c8 c d p x there h),
+        (
+          holds (breaks_c9 m c x) 9 (λ h. c9 c d p x there h),
+          (
+            holds (breaks_c10 m c x) 10 (λ h. c10 c d p x there h),
+            (
+              holds (breaks_c11 m c d x) 11 (λ h. c11 c d p x there h),
+              (
+                holds (breaks_c12 m x) 12 (λ h. c12 c d p x there h),
+                (
+                  holds (breaks_c13 m x) 13 (λ h. c13 c d p x there h),
+                  (
+                    holds (breaks_c18 x) 18 (λ h. c18 c d p x there h),
+                    (
+                      holds (breaks_c21 d x) 21 (λ h. c21 c d p x there h),
+                      (holds (breaks_c22 d x) 22 (λ h. c22 c d p x there h), tt),
+                    ),
+                  ),
+                ),
+              ),
+            ),
+          ),
+        ),
+      ),
+    ),
+  ),
 )
   where
     holds : (b : Bool) (n : ℕ) → (IsTrue b → BreaksWord m (violation n (place x))) → b ≡ false

@@ -15,4 +15,4 @@ pub record MayClose (m : ModelTree) (script : List Entry) : Type 0 where
   pub opens : Opens m
   pub few : length (text m) < 2 ^ 31
   pub written : ∥ IsWritten script ∥₁
-  pub unrefused : (line : ℕ) → IsFirstRefused m script line → ⊥
+  pub unrefused : (line : ℕ) → ¬ IsFirstRefused m script line

@@ -1,5 +1,5 @@
 -- What classes have in a grown model: a class that was there has what it had, and the new one has its own.
-use Rattle.std.proofs.Common.{◌≡◌, ◌≢◌, refl, sym, ap, ap₂, ◌∙◌, ℕ, zero, suc, ◌+◌, ◌-◌, ◌<◌, ◌≤◌, List, [], ◌∷◌, ◌++◌, append-nil, map, length, take, Option, Some, None, slice_get, arith}
+use Rattle.std.proofs.Common.{◌≡◌, ◌≢◌, refl, sym, ap, ap₂, ◌∙◌, ℕ, zero, suc, ◌+◌, ◌-◌, ◌<◌, ◌≤◌, List, [], ◌∷◌, ◌++◌, append-nil, map, length, take, Option, Some, None, arith}
 use Rattle.std.specs.List.{AllByRecursion, flat_map, sum_by}
 use Rattle.std.specs.Option.{option_map, option_map_or, option_or, option_and_then}
 use Rattle.std.proofs.lemmas.List.{take-append-le, length-map}
@@ -7,8 +7,7 @@ use Rattle.std.proofs.lemmas.List.Sums.{sum_by-cons}
 use Rattle.pz_syntax.specs.declared.names.Id.{Id}
 use Rattle.pz_syntax.specs.declared.classes.Message.{Message}
 use Rattle.pz_syntax.specs.declared.clusters.SystemDecl.{SystemDecl}
-use Rattle.pz_syntax.specs.Classes.{DeclTree, StartTree, ProcessClassTree, data_class, process_class, cluster_class, system, ModelTree}
-use Rattle.pz_classes.specs.declared.method_id.MethodId.{MethodId}
+use Rattle.pz_syntax.specs.Classes.{DeclTree, ProcessClassTree, data_class, process_class, cluster_class, system, ModelTree}
 use Rattle.pz_classes.specs.Numbers.{declaration}
 use Rattle.pz_classes.specs.Ancestors.{ancestors}
 use Rattle.pz_classes.specs.Reached.{AncestorsAreReached}
@@ -18,9 +17,9 @@ use Rattle.pz_classes.specs.Starts.{own_start}
 use Rattle.pz_classes.specs.CallRules.{own_messages, messages, start}
 use Rattle.pz_classes.specs.Instances.{own_parameters, parameters}
 use Rattle.pz_classes.specs.Soundness.{IsSound}
-use Rattle.pz_env_sound.proofs.Numbered.{declared_within}
-use Rattle.pz_env_sound.proofs.Grown.{grown_decl, grown, declaration_new, declaration_other, declared_other}
-use Rattle.pz_env_sound.proofs.Line.{ancestors_same, ancestors_other, ancestors_new}
+use Rattle.pz_env_sound.proofs.Numbers.{declared_within}
+use Rattle.pz_env_sound.proofs.Grown.{grown_decl, grown, declaration_new, declaration_other}
+use Rattle.pz_env_sound.proofs.Ancestors.{ancestors_same, ancestors_other, ancestors_new}
 
 -- A declaration has the same of its own
 

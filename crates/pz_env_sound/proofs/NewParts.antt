@@ -1,8 +1,8 @@
 -- What is asked of the class and of the instance that are new.
-use Rattle.std.proofs.Common.{◌≡◌, Bool, true, false, not, ◌&&◌, ◌||◌, None, List, []}
-use Rattle.std.proofs.lemmas.Bool.{false≢true, and_cases, and_left, and_right, or_left, or_right, not_from_true}
+use Rattle.std.proofs.Common.{◌≡◌, Bool, true, false, not, ◌&&◌, ◌||◌, None, []}
+use Rattle.std.proofs.lemmas.Bool.{false≢true, or_left, or_right, not_from_true}
 use Rattle.std.specs.Option.{unwrap_or}
-use Rattle.std.proofs.Common.{◌⊎◌, inl, inr, ◌++◌, ◌∷◌, refl, ◌∙◌, ap}
+use Rattle.std.proofs.Common.{◌++◌, ◌∷◌, refl}
 use Rattle.pz_syntax.specs.declared.clusters.Instance.{Instance}
 use Rattle.pz_syntax.specs.declared.clusters.SystemDecl.{SystemDecl}
 use Rattle.pz_syntax.specs.Classes.{ProcessClassTree, ModelTree}

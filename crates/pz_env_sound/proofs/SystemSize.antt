@@ -1,7 +1,7 @@
 -- The system of a grown model: one, with one process more and the channels that are new. C19 and C20.
-use Rattle.std.proofs.Common.{◌≡◌, ◌≢◌, refl, sym, ap, ap₂, subst, ◌∙◌, ℕ, zero, suc, ◌+◌, ◌<◌, ◌≤◌, Bool, true, false, ◌||◌, List, [], ◌∷◌, ◌++◌, map, length, length-append, nat_lt, Option, Some, None, slice_get, arith, le-ltb, ◌⊎◌, inl, inr, ⊎_elim}
+use Rattle.std.proofs.Common.{◌≡◌, ◌≢◌, refl, sym, ap, subst, ◌∙◌, ℕ, zero, suc, ◌+◌, ◌<◌, ◌≤◌, true, false, ◌||◌, List, [], ◌∷◌, ◌++◌, map, length, length-append, Option, Some, slice_get, arith, le-ltb, ◌⊎◌, inl, inr, ⊎_elim}
 use Rattle.std.specs.List.{Contains, flat_map}
-use Rattle.std.specs.Option.{unwrap_or, option_map_or}
+use Rattle.std.specs.Option.{option_map_or}
 use Rattle.std.proofs.lemmas.Bool.{both_ways, false≢true, or_from}
 use Rattle.pz_syntax.specs.declared.clusters.Instance.{Instance}
 use Rattle.pz_syntax.specs.declared.clusters.Channel.{Channel}
@@ -16,12 +16,11 @@ use Rattle.pz_classes.specs.RepeatRules.{Repeats}
 use Rattle.pz_classes.specs.SizeRules.{system_of, systems, Totals, nothing, plus, all_of, one_of, expanded, system_size, is_too_large, BreaksC19, too_large, BreaksC20, again_system, no_system}
 use Rattle.pz_classes.specs.SoundSystem.{SoundSystemsFit, SystemFits}
 use Rattle.pz_classes.specs.Soundness.{IsSound}
-use Rattle.pz_env_sound.proofs.Numbered.{none_some, some_same}
-use Rattle.pz_env_sound.proofs.Ways.{none_in, first_in, later_in, in_cases}
+use Rattle.pz_env_sound.proofs.WaysUp.{none_in, first_in, in_cases}
 use Rattle.pz_env_sound.proofs.Grown.{grown_decl, grown, decls_counted, declaration_old, declaration_new}
-use Rattle.pz_env_sound.proofs.Fresh.{IsFresh, Gains}
-use Rattle.pz_env_sound.proofs.Repeating.{one_repeats}
-use Rattle.pz_env_sound.proofs.Instances.{HasClass, has_class, class_of_new}
+use Rattle.pz_env_sound.proofs.NewParts.{IsFresh, Gains}
+use Rattle.pz_env_sound.proofs.RepeatsInParts.{one_repeats}
+use Rattle.pz_env_sound.proofs.Instances.{has_class, class_of_new}
 use Rattle.pz_env_sound.proofs.Channels.{Joins}
 use Rattle.pz_env_sound.proofs.Depth.{all_alike, IsPart, part_of, deep_enough}
 

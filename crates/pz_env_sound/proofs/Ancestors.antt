@@ -1,23 +1,20 @@
 -- The parents and the ancestors of classes in a grown model.
-use Rattle.std.proofs.Common.{◌≡◌, ◌≢◌, refl, sym, ap, ◌∙◌, ℕ, zero, suc, ◌<◌, Bool, true, false, not, ◌&&◌, List, [], ◌∷◌, length, Option, Some, None, if◌then◌else◌, arith, ◌⊎◌, inl, inr}
-use Rattle.std.specs.List.{Contains, AllByRecursion}
+use Rattle.std.proofs.Common.{◌≡◌, ◌≢◌, refl, sym, ap, ◌∙◌, ℕ, zero, suc, ◌<◌, Bool, true, false, List, [], ◌∷◌, length, Option, Some, None, if◌then◌else◌, arith, ◌⊎◌, inl, inr}
+use Rattle.std.specs.List.{AllByRecursion}
 use Rattle.std.specs.Option.{option_map, option_map_or, option_and_then}
-use Rattle.std.proofs.lemmas.Bool.{false≢true}
 use Rattle.pz_syntax.specs.declared.names.Id.{Id}
 use Rattle.pz_syntax.specs.declared.clusters.SystemDecl.{SystemDecl}
 use Rattle.pz_syntax.specs.Classes.{DeclTree, ProcessClassTree, data_class, process_class, cluster_class, system, ModelTree}
 use Rattle.pz_check_violations.specs.Order.{violation}
-use Rattle.pz_classes_lineage.specs.Reached.{Reaches}
 use Rattle.pz_classes_code.specs.ReservedNames.{is_primitive, is_unsupported}
 use Rattle.pz_classes.specs.Numbers.{declared_name, declaration, class}
-use Rattle.pz_classes.specs.Kinds.{is_declared_as}
 use Rattle.pz_classes.specs.Ancestors.{extended, parent_named, parent_of, parent, followed, ancestors}
 use Rattle.pz_classes.specs.Reached.{AncestorsAreReached}
-use Rattle.pz_classes.specs.Violations.{is_of_sort, same_sort, may_extend, breaks_c2, c2, c3}
+use Rattle.pz_classes.specs.Violations.{is_of_sort, same_sort, breaks_c2, c2, c3}
 use Rattle.pz_classes.specs.Soundness.{IsSound}
-use Rattle.pz_env_sound.proofs.Numbered.{none_some, class_within, class_declared}
+use Rattle.pz_env_sound.proofs.Numbers.{none_some, class_within, class_declared}
 use Rattle.pz_env_sound.proofs.Grown.{grown_decl, grown, decls_counted, declaration_new, declaration_other, class_kept}
-use Rattle.pz_env_sound.proofs.Ways.{More, one_more, ComesRound, round, last_reached}
+use Rattle.pz_env_sound.proofs.WaysUp.{More, one_more, ComesRound, round, last_reached}
 
 pub extended_same : (f : SystemDecl → SystemDecl) (d : DeclTree) → extended (grown_decl f d) ≡ extended d
 extended_same f (data_class c) = refl

@@ -1,5 +1,5 @@
 -- The new ends of a closed tree are there, and stand in no channel of the system.
-use Rattle.std.proofs.Common.{◌≡◌, ◌≢◌, refl, sym, ap, ap₂, subst, ◌∙◌, ℕ, zero, suc, ◌+◌, ◌<◌, ◌≤◌, Bool, true, false, not, ◌&&◌, ◌||◌, List, [], ◌∷◌, ◌++◌, map, length, Option, Some, None, IsTrue, if◌then◌else◌, slice_get, arith, ◌⊎◌, inl, inr, ⊎_elim}
+use Rattle.std.proofs.Common.{◌≡◌, ◌≢◌, refl, sym, ap, subst, ◌∙◌, ℕ, ◌≤◌, Bool, true, false, ◌&&◌, ◌||◌, List, [], ◌∷◌, map, length, Option, Some, IsTrue, if◌then◌else◌, slice_get, arith, ◌⊎◌, inl, inr}
 use Rattle.std.specs.List.{Contains, find, list_any}
 use Rattle.std.specs.Option.{option_map, option_map_or, unwrap_or}
 use Rattle.std.specs.Str.{bytes_eq}
@@ -12,34 +12,33 @@ use Rattle.pz_syntax.specs.declared.clusters.Channel.{Channel}
 use Rattle.pz_syntax.specs.declared.clusters.ChannelEnd.{ChannelEnd}
 use Rattle.pz_syntax.specs.declared.clusters.ChannelEnd.TheVariants.{Inner, Outer}
 use Rattle.pz_syntax.specs.declared.clusters.SystemDecl.{SystemDecl}
-use Rattle.pz_syntax.specs.Classes.{DeclTree, system, ModelTree}
+use Rattle.pz_syntax.specs.Classes.{system, ModelTree}
 use Rattle.pz_classes.specs.Numbers.{declaration}
 use Rattle.pz_classes.specs.Members.{ports, spelled}
 use Rattle.pz_classes.specs.Words.{is_among}
 use Rattle.pz_classes.specs.Reached.{AncestorsAreReached}
-use Rattle.pz_classes.specs.Instances.{instances, channels, instance_class}
+use Rattle.pz_classes.specs.Instances.{instances, channels}
 use Rattle.pz_classes.specs.RepeatRules.{same_name}
 use Rattle.pz_classes.specs.ChannelRules.{end_place, ends, instance_named, has_port, breaks_c16, same_end}
 use Rattle.pz_classes.specs.SoundSystem.{SoundSystemsFit, SystemFits, PartsFit, InnerFits}
 use Rattle.pz_classes.specs.Soundness.{IsSound}
-use Rattle.pz_bind.specs.Nest.{class_of, instances_at, channels_at}
+use Rattle.pz_bind.specs.Nest.{class_of, channels_at}
 use Rattle.pz_bind.specs.Connections.{is_inner, names_inner}
 use Rattle.pz_env_script.specs.declared.entry.Entry.{Entry}
 use Rattle.pz_env_rules.specs.Environment.{Line, lines_of}
-use Rattle.pz_env_rules.specs.Ends.{first_mentions, named_at}
-use Rattle.pz_env_tree.specs.Names.{class_name, instance_name, port_of}
+use Rattle.pz_env_rules.specs.Ends.{first_mentions}
+use Rattle.pz_env_tree.specs.Names.{instance_name, port_of}
 use Rattle.pz_env_tree.specs.EnvironmentClass.{environment_class}
 use Rattle.pz_env_tree.specs.ClosedTree.{environment, channel_of, closed_system}
 use Rattle.pz_env_tree.specs.devices.Refused as refused
-use Rattle.pz_env_sound.proofs.Numbered.{none_some, some_same}
-use Rattle.pz_env_sound.proofs.Ways.{none_in}
+use Rattle.pz_env_sound.proofs.Numbers.{none_some, some_same}
 use Rattle.pz_env_sound.proofs.Grown.{grown}
-use Rattle.pz_env_sound.proofs.Fresh.{IsFresh, Gains}
-use Rattle.pz_env_sound.proofs.Repeating.{at_place}
+use Rattle.pz_env_sound.proofs.NewParts.{IsFresh, Gains}
+use Rattle.pz_env_sound.proofs.RepeatsInParts.{at_place}
 use Rattle.pz_env_sound.proofs.Instances.{HasClass, has_class, class_of_new}
 use Rattle.pz_env_sound.proofs.Channels.{Joins, ends_of, found_in, named_still, port_still, AreNewEnds}
 use Rattle.pz_env_sound.proofs.Distinct.{no_repeat}
-use Rattle.pz_env_sound.proofs.Ports.{end_key, same_bytes, bytes_same, mentions_apart, few_mentions, mention_in}
+use Rattle.pz_env_sound.proofs.Ports.{same_bytes, bytes_same, mentions_apart, few_mentions, mention_in}
 use Rattle.pz_env_sound.proofs.EnvironmentWords.{port_there}
 use Rattle.pz_env_sound.proofs.Unrefused.{any_none, lines_counted, IsUnrefused, system_instances, system_channels}
 use Rattle.pz_env_sound.proofs.NewEnds.{any_some, find_at, find_last, from_map, from_flat, key_of, ends_alike, theirs, ours, new_channels, IsNewEnd, of_instance, of_environment, new_end, ends_apart}
