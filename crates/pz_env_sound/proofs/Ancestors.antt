@@ -51,7 +51,8 @@ module _ (m : ModelTree) where
   pub has_parent : (c p : ℕ) → parent m c ≡ Some p → HasParent c p
   has_parent c p is = by_decl (declaration m c) refl is
     where
-      by_name : (d : DeclTree) → declaration m c ≡ Some d → (o : Option Id) → extended d ≡ o → option_and_then (λ x. parent_named m x.name) o ≡ Some p → HasParent c p
+      by_name : (d : DeclTree) → declaration m c ≡ Some d → (o : Option Id) → extended d ≡ o
+          → option_and_then (λ x. parent_named m x.name) o ≡ Some p → HasParent c p
       by_name d at None ext has = absurd (none_some p has)
       by_name d at (Some x) ext has = record { decl = d; declared = at; name = x; extends = ext; is_class = named_class x.name p has }
 
@@ -63,10 +64,12 @@ module _ (m : ModelTree) where
   parent_within c p is = let has = has_parent c p is in class_within m has.name.name p has.is_class
 
 module _ (f : SystemDecl → SystemDecl) (e : ProcessClassTree) (m : ModelTree) (sound : IsSound m) where
-  named_same : (c : ℕ) (d : DeclTree) (x : Id) → declaration m c ≡ Some d → extended d ≡ Some x → parent_named (grown m f e) x.name ≡ parent_named m x.name
+  named_same : (c : ℕ) (d : DeclTree) (x : Id) → declaration m c ≡ Some d → extended d ≡ Some x
+      → parent_named (grown m f e) x.name ≡ parent_named m x.name
   named_same c d x at ext = by_unsupported (is_unsupported x.name) refl
     where
-      by_class : is_unsupported x.name ≡ false → is_primitive x.name ≡ false → (o : Option ℕ) → class m x.name ≡ o → class (grown m f e) x.name ≡ class m x.name
+      by_class : is_unsupported x.name ≡ false → is_primitive x.name ≡ false → (o : Option ℕ) → class m x.name ≡ o
+          → class (grown m f e) x.name ≡ class m x.name
       by_class known other (Some k) named = class_kept f e m x.name k named ∙ sym named
       by_class known other None named = absurd (sound.classes (violation 2 x.pos) (c2 c d x at ext breaks))
         where
@@ -76,7 +79,8 @@ module _ (f : SystemDecl → SystemDecl) (e : ProcessClassTree) (m : ModelTree) 
           breaks : breaks_c2 m d x.name ≡ true
           breaks = rw (known, other, unknown) refl
 
-      by_primitive : is_unsupported x.name ≡ false → (b : Bool) → is_primitive x.name ≡ b → parent_named (grown m f e) x.name ≡ parent_named m x.name
+      by_primitive : is_unsupported x.name ≡ false → (b : Bool) → is_primitive x.name ≡ b
+          → parent_named (grown m f e) x.name ≡ parent_named m x.name
       by_primitive known true is = rw (known, is) refl
       by_primitive known false is = rw (known, is) (by_class known is (class m x.name) refl)
 
@@ -87,19 +91,24 @@ module _ (f : SystemDecl → SystemDecl) (e : ProcessClassTree) (m : ModelTree) 
   pub parent_same : (c : ℕ) → c ≢ suc (length m.decls) → parent (grown m f e) c ≡ parent m c
   parent_same c other = ap (option_and_then (parent_of (grown m f e))) (declaration_other f e m c other) ∙ by_decl (declaration m c) refl
     where
-      by_name : (d : DeclTree) → declaration m c ≡ Some d → (o : Option Id) → extended d ≡ o → option_and_then (λ x. parent_named (grown m f e) x.name) o ≡ option_and_then (λ x. parent_named m x.name) o
+      by_name : (d : DeclTree) → declaration m c ≡ Some d → (o : Option Id) → extended d ≡ o
+          → option_and_then (λ x. parent_named (grown m f e) x.name) o ≡ option_and_then (λ x. parent_named m x.name) o
       by_name d at None ext = refl
       by_name d at (Some x) ext = named_same c d x at ext
 
-      by_decl : (o : Option DeclTree) → declaration m c ≡ o → option_and_then (parent_of (grown m f e)) (option_map (grown_decl f) o) ≡ option_and_then (parent_of m) o
+      by_decl : (o : Option DeclTree) → declaration m c ≡ o
+          → option_and_then (parent_of (grown m f e)) (option_map (grown_decl f) o) ≡ option_and_then (parent_of m) o
       by_decl None at = refl
       by_decl (Some d) at = ap (option_and_then (λ x. parent_named (grown m f e) x.name)) (extended_same f d) ∙ by_name d at (extended d) refl
 
   followed_same : (n c : ℕ) → c ≢ suc (length m.decls) → followed (parent (grown m f e)) n c ≡ followed (parent m) n c
   followed_same zero c other = refl
-  followed_same (suc n) c other = ap (λ (o : Option ℕ). c ∷ option_map_or (followed (parent (grown m f e)) n) o []) (parent_same c other) ∙ by_parent (parent m c) refl (followed_same n)
+  followed_same (suc n) c other =
+      ap (λ (o : Option ℕ). c ∷ option_map_or (followed (parent (grown m f e)) n) o []) (parent_same c other)
+      ∙ by_parent (parent m c) refl (followed_same n)
     where
-      by_parent : (o : Option ℕ) → parent m c ≡ o → ((p : ℕ) → p ≢ suc (length m.decls) → followed (parent (grown m f e)) n p ≡ followed (parent m) n p)
+      by_parent : (o : Option ℕ) → parent m c ≡ o
+          → ((p : ℕ) → p ≢ suc (length m.decls) → followed (parent (grown m f e)) n p ≡ followed (parent m) n p)
           → c ∷ option_map_or (followed (parent (grown m f e)) n) o [] ≡ c ∷ option_map_or (followed (parent m) n) o []
       by_parent None is rest = refl
       by_parent (Some p) is rest = let low = parent_within m c p is in ap (λ (l : List ℕ). c ∷ l) (rest p (λ same. omega (arith, low, same)))
@@ -136,7 +145,8 @@ module _ (f : SystemDecl → SystemDecl) (e : ProcessClassTree) (m : ModelTree) 
   followed_other zero c other = tt
   followed_other (suc n) c other = (other, by_parent (parent m c) refl (followed_other n))
     where
-      by_parent : (o : Option ℕ) → parent m c ≡ o → ((p : ℕ) → p ≢ suc (length m.decls) → AllByRecursion (λ (k : ℕ). k ≢ suc (length m.decls)) (followed (parent m) n p))
+      by_parent : (o : Option ℕ) → parent m c ≡ o
+          → ((p : ℕ) → p ≢ suc (length m.decls) → AllByRecursion (λ (k : ℕ). k ≢ suc (length m.decls)) (followed (parent m) n p))
           → AllByRecursion (λ (k : ℕ). k ≢ suc (length m.decls)) (option_map_or (followed (parent m) n) o [])
       by_parent None is rest = tt
       by_parent (Some p) is rest = let low = parent_within m c p is in rest p (λ same. omega (arith, low, same))

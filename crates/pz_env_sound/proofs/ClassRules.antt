@@ -55,7 +55,8 @@ to_grown f (system b) d = refl
 number_itself : (n : ℕ) → nat_eq n n ≡ true
 number_itself n = grind (arith, nat_tests)
 
-module _ (f : SystemDecl → SystemDecl) (e : ProcessClassTree) (m : ModelTree) (sound : IsSound m) (reached : AncestorsAreReached) (fresh : IsFresh m e) where
+module _ (f : SystemDecl → SystemDecl) (e : ProcessClassTree) (m : ModelTree) (sound : IsSound m) (reached : AncestorsAreReached)
+    (fresh : IsFresh m e) where
   first_kept : (c : ℕ) (name : List ℕ) → is_again m c name ≡ false → is_again (grown m f e) c name ≡ false
   first_kept c name is = by_class (class m name) refl is
     where
@@ -81,7 +82,8 @@ module _ (f : SystemDecl → SystemDecl) (e : ProcessClassTree) (m : ModelTree) 
   may_kept : (was : DeclTree) (name : List ℕ) → may_extend m was name ≡ true → may_extend (grown m f e) (grown_decl f was) name ≡ true
   may_kept was name is = by_primitive (is_primitive name) refl is
     where
-      by_primitive : (b : Bool) → is_primitive name ≡ b → (if b then is_data was && is_object name else is_of_sort m was name) ≡ true → may_extend (grown m f e) (grown_decl f was) name ≡ true
+      by_primitive : (b : Bool) → is_primitive name ≡ b → (if b then is_data was && is_object name else is_of_sort m was name) ≡ true
+          → may_extend (grown m f e) (grown_decl f was) name ≡ true
       by_primitive true prim has = rw (prim, data_same f was) has
       by_primitive false prim has = rw prim (sort_kept f e m (same_sort (grown_decl f was)) (λ d. sort_same f was d ∙ sym (to_grown f was d)) name (to_m has))
         where

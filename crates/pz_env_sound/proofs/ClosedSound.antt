@@ -23,7 +23,8 @@ use Rattle.pz_env_sound.proofs.EnvironmentNames.{environment_apart}
 use Rattle.pz_env_sound.proofs.EnvironmentWords.{environment_words}
 use Rattle.pz_env_sound.proofs.Unrefused.{IsUnrefused}
 use Rattle.pz_env_sound.proofs.NewEnds.{new_channels}
-use Rattle.pz_env_sound.proofs.EndsFit.{fresh_class, gains_one, joins_new, few_lines, name_free, ends_there, new_ends, few_channels}
+use Rattle.pz_env_sound.proofs.EndsFit.{fresh_class, gains_one, joins_new, few_lines, name_free, ends_there}
+use Rattle.pz_env_sound.proofs.EndsFree.{new_ends, few_channels}
 
 begins_waiting : (lines xs : List Line) → begun_all (statements lines xs) ≡ []
 begins_waiting lines [] = refl
@@ -33,7 +34,8 @@ calls_nothing : (lines xs : List Line) → all_plain_calls (statements lines xs)
 calls_nothing lines [] = refl
 calls_nothing lines (x ∷ xs) = by x.entry.transfer (calls_nothing lines xs)
   where
-    by : (t : Transfer) → all_plain_calls (statements lines xs) ≡ [] → plain_calls (exchange lines x t) ++ all_plain_calls (statements lines xs) ≡ []
+    by : (t : Transfer) → all_plain_calls (statements lines xs) ≡ []
+        → plain_calls (exchange lines x t) ++ all_plain_calls (statements lines xs) ≡ []
     by (Send vs) rest = rest
     by (Receive k) rest = rest
 
@@ -41,11 +43,13 @@ two_each : (lines xs : List Line) → statements_in_all (statements lines xs) �
 two_each lines [] = refl
 two_each lines (x ∷ xs) = by x.entry.transfer (two_each lines xs)
   where
-    by : (t : Transfer) → statements_in_all (statements lines xs) ≡ length xs + length xs → 1 + (statements_in (exchange lines x t) + statements_in_all (statements lines xs)) ≡ suc (length xs) + suc (length xs)
+    by : (t : Transfer) → statements_in_all (statements lines xs) ≡ length xs + length xs
+        → 1 + (statements_in (exchange lines x t) + statements_in_all (statements lines xs)) ≡ suc (length xs) + suc (length xs)
     by (Send vs) rest = omega (arith, rest)
     by (Receive k) rest = omega (arith, rest)
 
-module _ (m : ModelTree) (script : List Entry) (sound : IsSound m) (reached : AncestorsAreReached) (systems_fit : SoundSystemsFit) (un : IsUnrefused m script) (few : length script ≤ 100000) where
+module _ (m : ModelTree) (script : List Entry) (sound : IsSound m) (reached : AncestorsAreReached) (systems_fit : SoundSystemsFit)
+    (un : IsUnrefused m script) (few : length script ≤ 100000) where
   abbrev lines : List Line
   lines = lines_of script
 
@@ -53,7 +57,8 @@ module _ (m : ModelTree) (script : List Entry) (sound : IsSound m) (reached : An
   the_system = (systems_fit m sound).one_system.the_system
 
   is_declared : (c : ℕ) × (declaration m c ≡ Some (system the_system))
-  is_declared = system_declared m the_system (subst (λ (xs : List SystemDecl). Contains xs the_system) (sym (systems_fit m sound).one_system.only) (first_in the_system []))
+  is_declared =
+      system_declared m the_system (subst (λ (xs : List SystemDecl). Contains xs the_system) (sym (systems_fit m sound).one_system.only) (first_in the_system []))
 
   new_part : IsNew (closed_system lines) (environment_class lines) environment (new_channels lines) m (gains_one lines) (joins_new lines) sound reached (fresh_class m script un) systems_fit
   new_part = record {
@@ -71,7 +76,8 @@ module _ (m : ModelTree) (script : List Entry) (sound : IsSound m) (reached : An
   }
 
   pub closed_is_sound : IsSound (closed_tree m script)
-  closed_is_sound = grown_is_sound (closed_system lines) (environment_class lines) environment (new_channels lines) m (gains_one lines) (joins_new lines) sound reached (fresh_class m script un) systems_fit new_part
+  closed_is_sound =
+      grown_is_sound (closed_system lines) (environment_class lines) environment (new_channels lines) m (gains_one lines) (joins_new lines) sound reached (fresh_class m script un) systems_fit new_part
 
   pub closed_opens : Opens m → Opens (closed_tree m script)
   closed_opens opens =

@@ -23,7 +23,8 @@ apart : (c : ℕ) (xs : List ℕ) → list_any (eqb c) xs ≡ false → AllByRec
 apart c [] none = tt
 apart c (x ∷ xs) none = by (eqb c x) refl none (apart c xs)
   where
-    by : (b : Bool) → eqb c x ≡ b → b || list_any (eqb c) xs ≡ false → (list_any (eqb c) xs ≡ false → AllByRecursion (λ y. eqb c y ≡ false) xs) → AllByRecursion (λ y. eqb c y ≡ false) (x ∷ xs)
+    by : (b : Bool) → eqb c x ≡ b → b || list_any (eqb c) xs ≡ false
+        → (list_any (eqb c) xs ≡ false → AllByRecursion (λ y. eqb c y ≡ false) xs) → AllByRecursion (λ y. eqb c y ≡ false) (x ∷ xs)
     by true is h rest = absurd (false≢true (sym h))
     by false is h rest = (is, rest h)
 
@@ -53,7 +54,8 @@ module _ (m : ModelTree) where
 
       by : (o : Option DeclTree) → declaration m k ≡ o → IsPart k
       by None at = absurd (false≢true (sym (ap (λ (o : Option DeclTree). option_map_or is_process o false || option_map_or is_cluster o false) at) ∙ its))
-      by (Some d) at = record { decl = d; declared = at; sort = sym (ap (λ (o : Option DeclTree). option_map_or is_process o false || option_map_or is_cluster o false) at) ∙ its }
+      by (Some d) at =
+          record { decl = d; declared = at; sort = sym (ap (λ (o : Option DeclTree). option_map_or is_process o false || option_map_or is_cluster o false) at) ∙ its }
 
   -- what holds has instances
   holder : (a k : ℕ) → Holds m a k → (d : DeclTree) × (declaration m a ≡ Some d) × (i : Instance) × Contains (instances d) i
@@ -92,7 +94,8 @@ module _ (m : ModelTree) where
     longer : (path : List ℕ) (b : ℕ) → IsPath path b → IsPart b → IsDistinct eqb (b ∷ path)
     longer path b is part = IsDistinct-cons eqb b path (apart b path (not_on path b is part)) is.once
 
-    on_longer : (path : List ℕ) (b : ℕ) → IsPath path b → IsPart b → (q : ℕ) → list_any (eqb q) (b ∷ path) ≡ true → (0 < q) × (q < suc (length m.decls))
+    on_longer : (path : List ℕ) (b : ℕ) → IsPath path b → IsPart b → (q : ℕ) → list_any (eqb q) (b ∷ path) ≡ true
+        → (0 < q) × (q < suc (length m.decls))
     on_longer path b is part q on = by (eqb q b) refl on
       where
         by : (o : Bool) → eqb q b ≡ o → o || list_any (eqb q) path ≡ true → (0 < q) × (q < suc (length m.decls))
@@ -105,7 +108,8 @@ module _ (m : ModelTree) where
 
     short : (path : List ℕ) (b : ℕ) → IsPath path b → IsPart b → length path < length m.decls
     short path b is part =
-        let all : length (0 ∷ b ∷ path) ≤ suc (length m.decls) = length-le_from_distinct_below (0 ∷ b ∷ path) (suc (length m.decls)) (IsDistinct-cons eqb 0 (b ∷ path) (apart 0 (b ∷ path) (no_zero (list_any (eqb 0) (b ∷ path)) refl)) (longer path b is part)) low in
+        let all : length (0 ∷ b ∷ path) ≤ suc (length m.decls) =
+        length-le_from_distinct_below (0 ∷ b ∷ path) (suc (length m.decls)) (IsDistinct-cons eqb 0 (b ∷ path) (apart 0 (b ∷ path) (no_zero (list_any (eqb 0) (b ∷ path)) refl)) (longer path b is part)) low in
         omega (arith, all)
       where
         no_zero : (o : Bool) → list_any (eqb 0) (b ∷ path) ≡ o → list_any (eqb 0) (b ∷ path) ≡ false
@@ -133,13 +137,18 @@ module _ (m : ModelTree) where
             by true same h = subst (λ (x : ℕ). Holds m x k) (sym (eqb-true q b same)) holds
             by false other h = through q b k (is.each q h).2 holds
 
-    one_alike : (g h : ℕ → Totals) (d : DeclTree) → ((j : Instance) → Contains (instances d) j → option_map_or g (instance_class m j.class.name) nothing ≡ option_map_or h (instance_class m j.class.name) nothing) → one_of m g d ≡ one_of m h d
+    one_alike : (g h : ℕ → Totals) (d : DeclTree)
+        → ((j : Instance) → Contains (instances d) j → option_map_or g (instance_class m j.class.name) nothing ≡ option_map_or h (instance_class m j.class.name) nothing)
+        → one_of m g d ≡ one_of m h d
     one_alike g h (data_class c) each = refl
     one_alike g h (process_class c) each = refl
-    one_alike g h (cluster_class c) each = ap (plus (record { processes = 0; clusters = 1; channels = length (channels (cluster_class c)) })) (all_alike m m g h (instances (cluster_class c)) each)
-    one_alike g h (system s) each = ap (plus (record { processes = 0; clusters = 0; channels = length (channels (system s)) })) (all_alike m m g h (instances (system s)) each)
+    one_alike g h (cluster_class c) each =
+        ap (plus (record { processes = 0; clusters = 1; channels = length (channels (cluster_class c)) })) (all_alike m m g h (instances (cluster_class c)) each)
+    one_alike g h (system s) each =
+        ap (plus (record { processes = 0; clusters = 0; channels = length (channels (system s)) })) (all_alike m m g h (instances (system s)) each)
 
-    stays : (k : ℕ) (path : List ℕ) (b : ℕ) → IsPath path b → IsPart b → length m.decls ≤ length path + k → (l : ℕ) → k ≤ l → expanded m (suc l) b ≡ expanded m l b
+    stays : (k : ℕ) (path : List ℕ) (b : ℕ) → IsPath path b → IsPart b → length m.decls ≤ length path + k → (l : ℕ) → k ≤ l
+        → expanded m (suc l) b ≡ expanded m l b
     stays zero path b is part long l low = let few = short path b is part in absurd (omega (arith, few, long))
     stays (suc k) path b is part long zero low = absurd (omega (arith, low))
     stays (suc k) path b is part long (suc l) low =

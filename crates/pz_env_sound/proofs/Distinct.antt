@@ -43,7 +43,8 @@ module _ {A K : Type 0} (key : A → K) where
   AreApart [] = Unit {0}
   AreApart (x ∷ xs) = NotLater x xs × AreApart xs
 
-  pub one_place : (xs : List A) (i j : ℕ) (x y : A) → AreApart xs → slice_get xs i ≡ Some x → slice_get xs j ≡ Some y → i ≢ j → key x ≡ key y → ⊥
+  pub one_place : (xs : List A) (i j : ℕ) (x y : A) → AreApart xs → slice_get xs i ≡ Some x → slice_get xs j ≡ Some y → i ≢ j
+      → key x ≡ key y → ⊥
   one_place [] i j x y distinct at there differ same = none_some x at
   one_place (z ∷ zs) zero zero x y distinct at there differ same = differ refl
   one_place (z ∷ zs) zero (suc j) x y distinct at there differ same =
@@ -53,8 +54,10 @@ module _ {A K : Type 0} (key : A → K) where
   one_place (z ∷ zs) (suc i) (suc j) x y distinct at there differ same =
       one_place zs i j x y distinct.1 at there (λ e. differ (ap (λ (n : ℕ). suc n) e)) same
 
-  pub no_repeat : (like : A → A → Bool) (place : A → Pos) → ((x y : A) → IsTrue (like x y) → key x ≡ key y) → (xs : List A) (y : A) → AreApart xs → Repeats like place xs y → ⊥
-  no_repeat like place same_key xs y distinct r = one_place xs r.first_at r.again_at r.first y distinct r.first_there r.again_there r.apart (same_key r.first y r.alike)
+  pub no_repeat : (like : A → A → Bool) (place : A → Pos) → ((x y : A) → IsTrue (like x y) → key x ≡ key y) → (xs : List A) (y : A)
+      → AreApart xs → Repeats like place xs y → ⊥
+  no_repeat like place same_key xs y distinct r =
+      one_place xs r.first_at r.again_at r.first y distinct r.first_there r.again_there r.apart (same_key r.first y r.alike)
 
   kept_later : (p : A → Bool) (x : A) (ys : List A) → NotLater x ys → NotLater x (filter p ys)
   kept_later p x [] all = tt
@@ -72,7 +75,8 @@ module _ {A K : Type 0} (key : A → K) where
       by true rest = (kept_later p x xs all.0, rest)
       by false rest = rest
 
-  module _ (same : A → A → Bool) (tells : (x y : A) → same x y ≡ true → key x ≡ key y) (told : (x y : A) → key x ≡ key y → same x y ≡ true) where
+  module _ (same : A → A → Bool) (tells : (x y : A) → same x y ≡ true → key x ≡ key y)
+      (told : (x y : A) → key x ≡ key y → same x y ≡ true) where
     abbrev pub firsts : List A → List A
     firsts [] = []
     firsts (x ∷ xs) = x ∷ filter (λ y. not (same x y)) (firsts xs)
@@ -81,7 +85,8 @@ module _ {A K : Type 0} (key : A → K) where
     left_out x [] = tt
     left_out x (y ∷ ys) = by (same x y) refl (left_out x ys)
       where
-        by : (b : Bool) → same x y ≡ b → NotLater x (filter (λ z. not (same x z)) ys) → NotLater x (if not b then y ∷ filter (λ z. not (same x z)) ys else filter (λ z. not (same x z)) ys)
+        by : (b : Bool) → same x y ≡ b → NotLater x (filter (λ z. not (same x z)) ys)
+            → NotLater x (if not b then y ∷ filter (λ z. not (same x z)) ys else filter (λ z. not (same x z)) ys)
         by true is rest = rest
         by false is rest = (λ e. both_ways (same x y) is (told x y e), rest)
 
@@ -143,8 +148,10 @@ module _ {A K : Type 0} (key : A → K) where
     in_all p [] y has = has
     in_all p (z ∷ zs) y has = by (p z) has (in_all p zs y)
       where
-        by : (b : Bool) → Contains (if b then z ∷ filter p zs else filter p zs) y → (Contains (filter p zs) y → Contains zs y) → Contains (z ∷ zs) y
-        by true at rest = ⊎_elim (λ is. subst (λ (w : A). Contains (z ∷ zs) w) is (first_in z zs)) (λ later. later_in z zs y (rest later)) (in_cases z (filter p zs) y at)
+        by : (b : Bool) → Contains (if b then z ∷ filter p zs else filter p zs) y → (Contains (filter p zs) y → Contains zs y)
+            → Contains (z ∷ zs) y
+        by true at rest =
+            ⊎_elim (λ is. subst (λ (w : A). Contains (z ∷ zs) w) is (first_in z zs)) (λ later. later_in z zs y (rest later)) (in_cases z (filter p zs) y at)
         by false at rest = later_in z zs y (rest at)
 
     pub from_all : (xs : List A) (x : A) → Contains (firsts xs) x → Contains xs x
@@ -154,7 +161,8 @@ module _ {A K : Type 0} (key : A → K) where
         (in_cases z (filter (λ y. not (same z y)) (firsts zs)) x has)
 
 -- Elements that differ in their key where others do
-pub apart_by : {A B K L : Type 0} (key : A → K) (other : B → L) (g : A → B) (xs : List A) → ((x y : A) → Contains xs x → Contains xs y → other (g x) ≡ other (g y) → key x ≡ key y) → AreApart key xs → AreApart other (map g xs)
+pub apart_by : {A B K L : Type 0} (key : A → K) (other : B → L) (g : A → B) (xs : List A)
+    → ((x y : A) → Contains xs x → Contains xs y → other (g x) ≡ other (g y) → key x ≡ key y) → AreApart key xs → AreApart other (map g xs)
 apart_by key other g [] tells all = tt
 apart_by {A} {B} key other g (x ∷ xs) tells all =
     (later xs (λ y has. has) all.0, apart_by key other g xs (λ y z has at. tells y z (later_in x xs y has) (later_in x xs z at)) all.1)

@@ -34,8 +34,10 @@ pub data IsSaid (lines : List Line) : Mention → Type 0 where
   called : IsSaid lines (Called (named method_name) 0 0)
   variable : (x : Id) → x.name ≡ variable_name → IsSaid lines (Variable x)
   port : (x : Line) → Contains lines x → IsSaid lines (Port (port_of lines x))
-  sent : (x : Line) (n : ℕ) → Contains lines x → is_sent x.entry.transfer ≡ true → n ≡ count_in x.entry.transfer → IsSaid lines (Sent (port_of lines x) (named_at x x.entry.message) n)
-  received : (x : Line) (n : ℕ) → Contains lines x → is_sent x.entry.transfer ≡ false → n ≡ count_in x.entry.transfer → IsSaid lines (Received (port_of lines x) (named_at x x.entry.message) n)
+  sent : (x : Line) (n : ℕ) → Contains lines x → is_sent x.entry.transfer ≡ true → n ≡ count_in x.entry.transfer
+      → IsSaid lines (Sent (port_of lines x) (named_at x x.entry.message) n)
+  received : (x : Line) (n : ℕ) → Contains lines x → is_sent x.entry.transfer ≡ false → n ≡ count_in x.entry.transfer
+      → IsSaid lines (Received (port_of lines x) (named_at x x.entry.message) n)
 
 -- constants mention nothing, and are as many as the values
 
@@ -85,13 +87,15 @@ module _ (lines : List Line) where
       unwrapped [] = refl
       unwrapped (y ∷ ys) = refl
 
-  messages_said : (xs : List Line) → ((x : Line) → Contains xs x → Contains lines x) → AllByRecursion (IsSaid lines) (mentioned_messages (map (message_of lines) xs))
+  messages_said : (xs : List Line) → ((x : Line) → Contains xs x → Contains lines x)
+      → AllByRecursion (IsSaid lines) (mentioned_messages (map (message_of lines) xs))
   messages_said [] within = tt
   messages_said (x ∷ xs) within =
       all_both (IsSaid lines) (mentioned_message (message_of lines x)) (mentioned_messages (map (message_of lines) xs))
       (message_said x (within x (first_in x xs))) (messages_said xs (λ y has. within y (later_in x xs y has)))
 
-  exchange_said : (x : Line) → Contains lines x → (t : Transfer) → x.entry.transfer ≡ t → (rest : List Mention) → AllByRecursion (IsSaid lines) rest
+  exchange_said : (x : Line) → Contains lines x → (t : Transfer) → x.entry.transfer ≡ t → (rest : List Mention)
+      → AllByRecursion (IsSaid lines) rest
       → AllByRecursion (IsSaid lines) (statement.mentioned (exchange lines x t) ++ rest)
   exchange_said x has (Send vs) is rest all = (
     port x has,
@@ -111,7 +115,8 @@ module _ (lines : List Line) where
     ),
   )
 
-  statements_said : (xs : List Line) → ((x : Line) → Contains xs x → Contains lines x) → AllByRecursion (IsSaid lines) (mentioned_statements (statements lines xs))
+  statements_said : (xs : List Line) → ((x : Line) → Contains xs x → Contains lines x)
+      → AllByRecursion (IsSaid lines) (mentioned_statements (statements lines xs))
   statements_said [] within = tt
   statements_said (x ∷ xs) within =
       exchange_said x (within x (first_in x xs)) x.entry.transfer refl (mentioned_statements (statements lines xs))
@@ -127,7 +132,8 @@ module _ (lines : List Line) where
   method_said : AllByRecursion (IsSaid lines) (process_method (method_of lines)).mentions
   method_said = statements_said lines (λ x has. has)
 
-  pub each_said : (p : LocalScope) (x : Mention) → Contains (parts (process_class (environment_class lines))) p → Contains p.mentions x → IsSaid lines x × (p.locals ≡ [])
+  pub each_said : (p : LocalScope) (x : Mention) → Contains (parts (process_class (environment_class lines))) p → Contains p.mentions x
+      → IsSaid lines x × (p.locals ≡ [])
   each_said p x has at = first (in_cases (process_head (environment_class lines)) (process_method (method_of lines) ∷ []) p has)
     where
       of : (q : LocalScope) → AllByRecursion (IsSaid lines) q.mentions → q.locals ≡ [] → q ≡ p → IsSaid lines x × (p.locals ≡ [])
@@ -140,6 +146,7 @@ module _ (lines : List Line) where
       second (inl same) = of (process_method (method_of lines)) method_said refl same
       second (inr none) = absurd (none_in p none)
 
-      first : (process_head (environment_class lines) ≡ p) ⊎ Contains (process_method (method_of lines) ∷ []) p → IsSaid lines x × (p.locals ≡ [])
+      first : (process_head (environment_class lines) ≡ p) ⊎ Contains (process_method (method_of lines) ∷ []) p
+          → IsSaid lines x × (p.locals ≡ [])
       first (inl same) = of (process_head (environment_class lines)) head_said refl same
       first (inr later) = second (in_cases (process_method (method_of lines)) [] p later)

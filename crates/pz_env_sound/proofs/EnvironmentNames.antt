@@ -55,7 +55,8 @@ message_key x = record { port = x.port.name; out = x.out; name = x.name.name; co
 
 message_tells : (x y : Message) → IsTrue (same_message x y) → message_key x ≡ message_key y
 message_tells x y is =
-    let last = and_parts (bytes_eq x.port.name y.port.name && beq x.out y.out && bytes_eq x.name.name y.name.name) (nat_eq (length (unwrap_or x.types [])) (length (unwrap_or y.types []))) is in
+    let last =
+    and_parts (bytes_eq x.port.name y.port.name && beq x.out y.out && bytes_eq x.name.name y.name.name) (nat_eq (length (unwrap_or x.types [])) (length (unwrap_or y.types []))) is in
     let third = and_parts (bytes_eq x.port.name y.port.name && beq x.out y.out) (bytes_eq x.name.name y.name.name) last.0 in
     let two = and_parts (bytes_eq x.port.name y.port.name) (beq x.out y.out) third.0 in
     ap (λ (n : List ℕ). record { port = n; out = x.out; name = x.name.name; count = length (unwrap_or x.types []) }) (same_bytes x.port.name y.port.name two.0)
@@ -76,11 +77,14 @@ module _ (lines : List Line) (few : length lines ≤ 100000) where
       (λ x y has_x has_y same. port_tells lines few x y (mention_in lines x has_x) (mention_in lines y has_y) same)
       (mentions_apart lines)
 
-  said_by : (x y : Line) → Contains (first_messages lines) x → Contains (first_messages lines) y → message_key (message_of lines x) ≡ message_key (message_of lines y) → said x ≡ said y
+  said_by : (x y : Line) → Contains (first_messages lines) x → Contains (first_messages lines) y
+      → message_key (message_of lines x) ≡ message_key (message_of lines y) → said x ≡ said y
   said_by x y has_x has_y same =
       let ends = port_tells lines few x y (message_in lines x has_x) (message_in lines y has_y) (ap (λ (k : MessageKey). k.port) same) in
       let count : count_in x.entry.transfer ≡ count_in y.entry.transfer =
-      sym (counted (count_in x.entry.transfer) (named_at x kind_name)) ∙ ap (λ (k : MessageKey). k.count) same ∙ counted (count_in y.entry.transfer) (named_at y kind_name) in
+      sym (counted (count_in x.entry.transfer) (named_at x kind_name))
+      ∙ ap (λ (k : MessageKey). k.count) same
+      ∙ counted (count_in y.entry.transfer) (named_at y kind_name) in
       ap (λ (k : EndKey). record { end = k; out = is_sent x.entry.transfer; message = x.entry.message; count = count_in x.entry.transfer }) ends
       ∙ ap (λ (b : Bool). record { end = end_key y; out = b; message = x.entry.message; count = count_in x.entry.transfer }) (ap (λ (k : MessageKey). k.out) same)
       ∙ ap (λ (n : List ℕ). record { end = end_key y; out = is_sent y.entry.transfer; message = n; count = count_in x.entry.transfer }) (ap (λ (k : MessageKey). k.name) same)
@@ -106,5 +110,6 @@ module _ (lines : List Line) (few : length lines ≤ 100000) where
     ports = λ y again. no_repeat name_of same_name (λ (x : Id). x.pos) name_tells (map (port_of lines) (first_mentions lines)) y ports_apart again;
     locals = λ p has y again. none_repeats same_name (λ (x : Id). x.pos) y (subst (λ (ids : List Id). RepeatsName ids y) (no_locals p has) again);
     methods = one_repeats same_heading (λ (x : Heading). x.name.pos) (process_heading (method_of lines));
-    messages = λ y again. no_repeat message_key same_message (λ (x : Message). x.name.pos) message_tells (map (message_of lines) (first_messages lines)) y said_apart again;
+    messages =
+        λ y again. no_repeat message_key same_message (λ (x : Message). x.name.pos) message_tells (map (message_of lines) (first_messages lines)) y said_apart again;
   }

@@ -52,7 +52,8 @@ same_flag false = refl
 same_number : (a b : ℕ) → a ≡ b → nat_eq a b ≡ true
 same_number a b is = grind (arith, nat_tests)
 
-module _ (f : SystemDecl → SystemDecl) (lines : List Line) (m : ModelTree) (sound : IsSound m) (reached : AncestorsAreReached) (fresh : IsFresh m (environment_class lines)) where
+module _ (f : SystemDecl → SystemDecl) (lines : List Line) (m : ModelTree) (sound : IsSound m) (reached : AncestorsAreReached)
+    (fresh : IsFresh m (environment_class lines)) where
   abbrev n : ModelTree
   n = grown m f (environment_class lines)
 
@@ -99,7 +100,8 @@ module _ (f : SystemDecl → SystemDecl) (lines : List Line) (m : ModelTree) (so
       (refl, (refl, (there, (refl, (refl, (refl, (refl, (refl, (refl, (refl, (refl, (refl, tt))))))))))))
     where
       there : breaks_c7 n c (Called (named method_name) 0 0) ≡ false
-      there = ap (λ (o : Option MethodId). is_none o) (method_new f (environment_class lines) m sound reached fresh.alone (record { name = method_name; counts = Process 0 0 }))
+      there =
+          ap (λ (o : Option MethodId). is_none o) (method_new f (environment_class lines) m sound reached fresh.alone (record { name = method_name; counts = Process 0 0 }))
   said_stands _ (variable x is) =
       (refl, (there, (refl, (refl, (refl, (refl, (refl, (refl, (refl, (refl, (refl, (refl, tt))))))))))))
     where
@@ -114,7 +116,8 @@ module _ (f : SystemDecl → SystemDecl) (lines : List Line) (m : ModelTree) (so
   said_stands _ (received x k has way number) =
       (refl, (refl, (refl, (refl, (refl, (not_from_true _ (message_there x k false has way number), (refl, (refl, (refl, (refl, (refl, (refl, tt))))))))))))
 
-  pub environment_words : (p : LocalScope) (x : Mention) → Contains (parts (process_class (environment_class lines))) p → Contains p.mentions x → NoneHolds (broken n c (process_class (environment_class lines)) p.locals x)
+  pub environment_words : (p : LocalScope) (x : Mention) → Contains (parts (process_class (environment_class lines))) p
+      → Contains p.mentions x → NoneHolds (broken n c (process_class (environment_class lines)) p.locals x)
   environment_words p x has at =
       let its = each_said lines p x has at in
       subst (λ (ids : List Id). NoneHolds (broken n c (process_class (environment_class lines)) ids x)) (sym its.1) (said_stands x its.0)

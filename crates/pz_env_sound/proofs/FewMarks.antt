@@ -41,17 +41,20 @@ module _ (lines : List Line) where
       let h = section_marks channel_text k.Channels d.channels (new_channels lines) in
       let more = channels_marks in
       let was = length-append (section k.Instances (each_text instance_text) d.instances) (section k.Channels (each_text channel_text) d.channels) in
-      let now = length-append (section k.Instances (each_text instance_text) (closed_system lines d).instances) (section k.Channels (each_text channel_text) (closed_system lines d).channels) in
+      let now =
+      length-append (section k.Instances (each_text instance_text) (closed_system lines d).instances) (section k.Channels (each_text channel_text) (closed_system lines d).channels) in
       omega (arith, i, h, more, was, now)
 
   -- A declaration in front of others: k more where it is a system
-  in_front : (was now rest all : List Mark) (n k c : ℕ) → length now ≤ length was + k → length all ≤ length rest + n * k + c → length (now ++ all) ≤ length (was ++ rest) + suc n * k + c
+  in_front : (was now rest all : List Mark) (n k c : ℕ) → length now ≤ length was + k → length all ≤ length rest + n * k + c
+      → length (now ++ all) ≤ length (was ++ rest) + suc n * k + c
   in_front was now rest all n k c this more =
       let front = length-append was rest in
       let both = length-append now all in
       omega (arith, this, more, front, both)
 
-  as_before : (d rest all : List Mark) (n k c : ℕ) → length all ≤ length rest + n * k + c → length (d ++ all) ≤ length (d ++ rest) + n * k + c
+  as_before : (d rest all : List Mark) (n k c : ℕ) → length all ≤ length rest + n * k + c
+      → length (d ++ all) ≤ length (d ++ rest) + n * k + c
   as_before d rest all n k c more =
       let front = length-append d rest in
       let both = length-append d all in
@@ -60,16 +63,22 @@ module _ (lines : List Line) where
   abbrev now_text : List DeclTree → List Mark
   now_text ds = each_text decl_text (map (grown_decl (closed_system lines)) ds ++ process_class (environment_class lines) ∷ [])
 
-  decls_marks : (ds : List DeclTree) → length (now_text ds) ≤ length (each_text decl_text ds) + length (flat_map system_of ds) * (5 + 9 * length lines) + length (process_class_text (environment_class lines))
+  decls_marks : (ds : List DeclTree)
+      → length (now_text ds) ≤ length (each_text decl_text ds) + length (flat_map system_of ds) * (5 + 9 * length lines) + length (process_class_text (environment_class lines))
   decls_marks [] = let all = length-append (process_class_text (environment_class lines)) [] in omega (arith, all)
-  decls_marks (data_class c ∷ ds) = as_before (decl_text (data_class c)) (each_text decl_text ds) (now_text ds) (length (flat_map system_of ds)) (5 + 9 * length lines) (length (process_class_text (environment_class lines))) (decls_marks ds)
-  decls_marks (process_class c ∷ ds) = as_before (decl_text (process_class c)) (each_text decl_text ds) (now_text ds) (length (flat_map system_of ds)) (5 + 9 * length lines) (length (process_class_text (environment_class lines))) (decls_marks ds)
-  decls_marks (cluster_class c ∷ ds) = as_before (decl_text (cluster_class c)) (each_text decl_text ds) (now_text ds) (length (flat_map system_of ds)) (5 + 9 * length lines) (length (process_class_text (environment_class lines))) (decls_marks ds)
+  decls_marks (data_class c ∷ ds) =
+      as_before (decl_text (data_class c)) (each_text decl_text ds) (now_text ds) (length (flat_map system_of ds)) (5 + 9 * length lines) (length (process_class_text (environment_class lines))) (decls_marks ds)
+  decls_marks (process_class c ∷ ds) =
+      as_before (decl_text (process_class c)) (each_text decl_text ds) (now_text ds) (length (flat_map system_of ds)) (5 + 9 * length lines) (length (process_class_text (environment_class lines))) (decls_marks ds)
+  decls_marks (cluster_class c ∷ ds) =
+      as_before (decl_text (cluster_class c)) (each_text decl_text ds) (now_text ds) (length (flat_map system_of ds)) (5 + 9 * length lines) (length (process_class_text (environment_class lines))) (decls_marks ds)
   decls_marks (system d ∷ ds) =
       in_front (system_text d) (system_text (closed_system lines d)) (each_text decl_text ds) (now_text ds) (length (flat_map system_of ds)) (5 + 9 * length lines) (length (process_class_text (environment_class lines)))
       (system_marks d) (decls_marks ds)
 
-pub closed_has_few : (m : ModelTree) (script : List Entry) → SystemFits m → length script ≤ 100000 → ((x : Line) → Contains (lines_of script) x → count_in x.entry.transfer ≤ 100) → length (text m) < 2 ^ 31 → HasFewMarks (closed_tree m script)
+pub closed_has_few : (m : ModelTree) (script : List Entry) → SystemFits m → length script ≤ 100000
+    → ((x : Line) → Contains (lines_of script) x → count_in x.entry.transfer ≤ 100) → length (text m) < 2 ^ 31
+    → HasFewMarks (closed_tree m script)
 closed_has_few m script fits few values room =
     let marks = decls_marks (lines_of script) m.decls in
     let one : length (systems m) ≡ 1 = ap length fits.one_system.only in

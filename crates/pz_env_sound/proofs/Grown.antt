@@ -29,7 +29,8 @@ module _ (f : SystemDecl → SystemDecl) (e : ProcessClassTree) where
 
   -- Numbers
 
-  at_old : (ds : List DeclTree) (i : ℕ) (d : DeclTree) → slice_get ds i ≡ Some d → slice_get (map (grown_decl f) ds ++ process_class e ∷ []) i ≡ Some (grown_decl f d)
+  at_old : (ds : List DeclTree) (i : ℕ) (d : DeclTree) → slice_get ds i ≡ Some d
+      → slice_get (map (grown_decl f) ds ++ process_class e ∷ []) i ≡ Some (grown_decl f d)
   at_old [] i d is = absurd (none_some d is)
   at_old (x ∷ ds) zero d is = ap (λ (y : DeclTree). Some (grown_decl f y)) (some_same x d is)
   at_old (x ∷ ds) (suc i) d is = at_old ds i d is
@@ -43,7 +44,8 @@ module _ (f : SystemDecl → SystemDecl) (e : ProcessClassTree) where
     old : (was : DeclTree) → slice_get ds i ≡ Some was → d ≡ grown_decl f was → Stands ds i d
     new : i ≡ length ds → d ≡ process_class e → Stands ds i d
 
-  stands : (ds : List DeclTree) (i : ℕ) (d : DeclTree) → slice_get (map (grown_decl f) ds ++ process_class e ∷ []) i ≡ Some d → Stands ds i d
+  stands : (ds : List DeclTree) (i : ℕ) (d : DeclTree) → slice_get (map (grown_decl f) ds ++ process_class e ∷ []) i ≡ Some d
+      → Stands ds i d
   stands [] zero d is = new refl (sym (some_same (process_class e) d is))
   stands [] (suc i) d is = absurd (none_some d is)
   stands (x ∷ ds) zero d is = old x refl (sym (some_same (grown_decl f x) d is))
@@ -53,7 +55,8 @@ module _ (f : SystemDecl → SystemDecl) (e : ProcessClassTree) where
       on (old was there same) = old was there same
       on (new number same) = new (ap (λ (k : ℕ). suc k) number) same
 
-  at_other : (ds : List DeclTree) (i : ℕ) → i ≢ length ds → slice_get (map (grown_decl f) ds ++ process_class e ∷ []) i ≡ option_map (grown_decl f) (slice_get ds i)
+  at_other : (ds : List DeclTree) (i : ℕ) → i ≢ length ds
+      → slice_get (map (grown_decl f) ds ++ process_class e ∷ []) i ≡ option_map (grown_decl f) (slice_get ds i)
   at_other [] zero other = absurd (other refl)
   at_other [] (suc i) other = refl
   at_other (x ∷ ds) zero other = refl
@@ -65,20 +68,24 @@ module _ (f : SystemDecl → SystemDecl) (e : ProcessClassTree) where
 
   -- Names
 
-  found_first : (ds : List DeclTree) (n k : ℕ) (name : List ℕ) → first_named ds n name ≡ Some k → first_named (map (grown_decl f) ds ++ process_class e ∷ []) n name ≡ Some k
+  found_first : (ds : List DeclTree) (n k : ℕ) (name : List ℕ) → first_named ds n name ≡ Some k
+      → first_named (map (grown_decl f) ds ++ process_class e ∷ []) n name ≡ Some k
   found_first [] n k name is = absurd (none_some k is)
   found_first (d ∷ ds) n k name is = by (is_named name d) refl (found_first ds (suc n) k name)
     where
-      by : (b : Bool) → is_named name d ≡ b → (first_named ds (suc n) name ≡ Some k → first_named (map (grown_decl f) ds ++ process_class e ∷ []) (suc n) name ≡ Some k)
+      by : (b : Bool) → is_named name d ≡ b
+          → (first_named ds (suc n) name ≡ Some k → first_named (map (grown_decl f) ds ++ process_class e ∷ []) (suc n) name ≡ Some k)
           → first_named (map (grown_decl f) (d ∷ ds) ++ process_class e ∷ []) n name ≡ Some k
       by true has rest = rw (named_same name d, has) (rw has at is)
       by false has rest = rw (named_same name d, has) (rest (rw has at is))
 
-  found_behind : (ds : List DeclTree) (n : ℕ) (name : List ℕ) → first_named ds n name ≡ None → bytes_eq name e.name.name ≡ true → first_named (map (grown_decl f) ds ++ process_class e ∷ []) n name ≡ Some (n + length ds)
+  found_behind : (ds : List DeclTree) (n : ℕ) (name : List ℕ) → first_named ds n name ≡ None → bytes_eq name e.name.name ≡ true
+      → first_named (map (grown_decl f) ds ++ process_class e ∷ []) n name ≡ Some (n + length ds)
   found_behind [] n name is same = let here : n ≡ n + 0 = omega arith in rw same (ap (λ (k : ℕ). Some k) here)
   found_behind (d ∷ ds) n name is same = by (is_named name d) refl (found_behind ds (suc n) name)
     where
-      by : (b : Bool) → is_named name d ≡ b → (first_named ds (suc n) name ≡ None → bytes_eq name e.name.name ≡ true → first_named (map (grown_decl f) ds ++ process_class e ∷ []) (suc n) name ≡ Some (suc n + length ds))
+      by : (b : Bool) → is_named name d ≡ b
+          → (first_named ds (suc n) name ≡ None → bytes_eq name e.name.name ≡ true → first_named (map (grown_decl f) ds ++ process_class e ∷ []) (suc n) name ≡ Some (suc n + length ds))
           → first_named (map (grown_decl f) (d ∷ ds) ++ process_class e ∷ []) n name ≡ Some (n + suc (length ds))
       by true has rest = absurd (none_some n (sym (rw has at is)))
       by false has rest =
@@ -124,14 +131,17 @@ module _ (f : SystemDecl → SystemDecl) (e : ProcessClassTree) where
         found_behind m.decls 1 e.name.name none ((bytes_eq-Decides e.name.name e.name.name).1 refl) ∙ ap (λ (k : ℕ). Some k) number
 
     -- A name that stands for a class of some sort stands for it still.
-    pub sort_kept : (sort : DeclTree → Bool) → ((d : DeclTree) → sort (grown_decl f d) ≡ sort d) → (name : List ℕ) → is_declared_as sort m name ≡ true → is_declared_as sort (grown m f e) name ≡ true
+    pub sort_kept : (sort : DeclTree → Bool) → ((d : DeclTree) → sort (grown_decl f d) ≡ sort d) → (name : List ℕ)
+        → is_declared_as sort m name ≡ true → is_declared_as sort (grown m f e) name ≡ true
     sort_kept sort same name is = by_class (class m name) refl is
       where
-        by_decl : (k : ℕ) → class m name ≡ Some k → (o : Option DeclTree) → declaration m k ≡ o → option_map_or sort o false ≡ true → is_declared_as sort (grown m f e) name ≡ true
+        by_decl : (k : ℕ) → class m name ≡ Some k → (o : Option DeclTree) → declaration m k ≡ o → option_map_or sort o false ≡ true
+            → is_declared_as sort (grown m f e) name ≡ true
         by_decl k named None at has = absurd (false≢true has)
         by_decl k named (Some d) at has = rw (class_kept name k named, declaration_old k d at) (same d ∙ has)
 
-        by_class : (o : Option ℕ) → class m name ≡ o → option_map_or sort (option_and_then (declaration m) o) false ≡ true → is_declared_as sort (grown m f e) name ≡ true
+        by_class : (o : Option ℕ) → class m name ≡ o → option_map_or sort (option_and_then (declaration m) o) false ≡ true
+            → is_declared_as sort (grown m f e) name ≡ true
         by_class None named has = absurd (false≢true has)
         by_class (Some k) named has = by_decl k named (declaration m k) refl has
 

@@ -29,16 +29,21 @@ use Rattle.pz_env_sound.proofs.Instances.{each_is_given, none_holds_itself}
 use Rattle.pz_env_sound.proofs.Channels.{Joins, ends_of, AreNewEnds, each_end_is_there, no_end_twice}
 use Rattle.pz_env_sound.proofs.SystemSize.{not_too_large, one_system}
 
-module _ (f : SystemDecl → SystemDecl) (e : ProcessClassTree) (i : Instance) (more : List Channel) (m : ModelTree) (gains : Gains f e i) (joins : Joins f more) (sound : IsSound m) (reached : AncestorsAreReached) (fresh : IsFresh m e) (systems_fit : SoundSystemsFit) where
+module _ (f : SystemDecl → SystemDecl) (e : ProcessClassTree) (i : Instance) (more : List Channel) (m : ModelTree) (gains : Gains f e i)
+    (joins : Joins f more) (sound : IsSound m) (reached : AncestorsAreReached) (fresh : IsFresh m e) (systems_fit : SoundSystemsFit) where
   -- what is asked of what is new
   pub record IsNew : Type 0 where
-    pub words : (p : LocalScope) (x : Mention) → Contains (parts (process_class e)) p → Contains p.mentions x → NoneHolds (broken (grown m f e) (suc (length m.decls)) (process_class e) p.locals x)
+    pub words : (p : LocalScope) (x : Mention) → Contains (parts (process_class e)) p → Contains p.mentions x
+        → NoneHolds (broken (grown m f e) (suc (length m.decls)) (process_class e) p.locals x)
     pub apart : IsApart e
-    pub free : (c : ℕ) (s : SystemDecl) → declaration m c ≡ Some (system s) → (x : Id) → Contains (map (λ (j : Instance). j.name) (instances (system s))) x
+    pub free : (c : ℕ) (s : SystemDecl) → declaration m c ≡ Some (system s) → (x : Id)
+        → Contains (map (λ (j : Instance). j.name) (instances (system s))) x
         → (IsTrue (same_name x i.name) → ⊥) × (IsTrue (same_name i.name x) → ⊥)
-    pub ends : (c : ℕ) (s : SystemDecl) → declaration m c ≡ Some (system s) → (end : ChannelEnd) → Contains (ends_of more) end → breaks_c16 (grown m f e) c (system (f s)) end ≡ false
+    pub ends : (c : ℕ) (s : SystemDecl) → declaration m c ≡ Some (system s) → (end : ChannelEnd) → Contains (ends_of more) end
+        → breaks_c16 (grown m f e) c (system (f s)) end ≡ false
     pub new_ends : AreNewEnds f e i more m gains joins sound reached fresh systems_fit
-    pub room : (s : SystemDecl) → Contains (systems m) s → ((system_size m s).processes < 10000) × ((system_size m s).channels + length more ≤ 1000000)
+    pub room : (s : SystemDecl) → Contains (systems m) s
+        → ((system_size m s).processes < 10000) × ((system_size m s).channels + length more ≤ 1000000)
 
   module _ (is_new : IsNew) where
     no_break : (v : Violation) → Breaks (grown m f e) v → ⊥

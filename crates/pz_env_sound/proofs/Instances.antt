@@ -30,18 +30,23 @@ use Rattle.pz_env_sound.proofs.KeptWords.{instances_kept}
 use Rattle.pz_env_sound.proofs.Words.{new_has_instances}
 
 -- the class of an instance is one of the model
-pub class_named : (m : ModelTree) (name : List ℕ) (k : ℕ) → instance_class m name ≡ Some k → (is_unsupported name ≡ false) × (has_instances m name ≡ true) × (class m name ≡ Some k)
+pub class_named : (m : ModelTree) (name : List ℕ) (k : ℕ) → instance_class m name ≡ Some k
+    → (is_unsupported name ≡ false) × (has_instances m name ≡ true) × (class m name ≡ Some k)
 class_named m name k is = by_unsupported (is_unsupported name) refl is
   where
-    by_instances : is_unsupported name ≡ false → (b : Bool) → has_instances m name ≡ b → (if b then class m name else None) ≡ Some k → (is_unsupported name ≡ false) × (has_instances m name ≡ true) × (class m name ≡ Some k)
+    by_instances : is_unsupported name ≡ false → (b : Bool) → has_instances m name ≡ b → (if b then class m name else None) ≡ Some k
+        → (is_unsupported name ≡ false) × (has_instances m name ≡ true) × (class m name ≡ Some k)
     by_instances known true may has = (known, may, has)
     by_instances known false may has = absurd (none_some k has)
 
-    by_unsupported : (b : Bool) → is_unsupported name ≡ b → (if b then None else if has_instances m name then class m name else None) ≡ Some k → (is_unsupported name ≡ false) × (has_instances m name ≡ true) × (class m name ≡ Some k)
+    by_unsupported : (b : Bool) → is_unsupported name ≡ b
+        → (if b then None else if has_instances m name then class m name else None) ≡ Some k
+        → (is_unsupported name ≡ false) × (has_instances m name ≡ true) × (class m name ≡ Some k)
     by_unsupported true known has = absurd (none_some k has)
     by_unsupported false known has = by_instances known (has_instances m name) refl has
 
-pub instance_named_class : (m : ModelTree) (name : List ℕ) (k : ℕ) → is_unsupported name ≡ false → has_instances m name ≡ true → class m name ≡ Some k → instance_class m name ≡ Some k
+pub instance_named_class : (m : ModelTree) (name : List ℕ) (k : ℕ) → is_unsupported name ≡ false → has_instances m name ≡ true
+    → class m name ≡ Some k → instance_class m name ≡ Some k
 instance_named_class m name k known may named = rw (known, may) named
 
 module _ (f : SystemDecl → SystemDecl) (e : ProcessClassTree) (i : Instance) (m : ModelTree) (gains : Gains f e i) where
@@ -96,15 +101,18 @@ module _ (f : SystemDecl → SystemDecl) (e : ProcessClassTree) (i : Instance) (
           old_one was there in_was its =
               let number : its.number ≡ k = same_class j its k is in
               let low = its.within in
-              let params : parameters (grown m f e) k ≡ parameters m its.number = ap (parameters (grown m f e)) (sym number) ∙ parameters_same f e m sound reached its.number (λ q. omega (arith, low, q)) in
+              let params : parameters (grown m f e) k ≡ parameters m its.number =
+              ap (parameters (grown m f e)) (sym number) ∙ parameters_same f e m sound reached its.number (λ q. omega (arith, low, q)) in
               sound.rules (violation 14 j.name.pos) (given (violation 14 j.name.pos)
               (ill_given c its.number was j there in_was its.was (ap (λ (ids : List Id). gives_each (given_names j) (spelled ids)) (sym params) ∙ wrong)))
 
           new_one : i ≡ j → ⊥
           new_one same =
               let number : suc (length m.decls) ≡ k = new_class j k same is in
-              let params : parameters (grown m f e) k ≡ [] = ap (parameters (grown m f e)) (sym number) ∙ parameters_new f e m sound reached fresh.alone ∙ ap section fresh.bare in
-              let names : given_names j ≡ [] = ap given_names (sym same) ∙ ap (λ (o : Option (List Given)). map (λ (g : Given). g.name.name) (unwrap_or o [])) gains.given in
+              let params : parameters (grown m f e) k ≡ [] =
+              ap (parameters (grown m f e)) (sym number) ∙ parameters_new f e m sound reached fresh.alone ∙ ap section fresh.bare in
+              let names : given_names j ≡ [] =
+              ap given_names (sym same) ∙ ap (λ (o : Option (List Given)). map (λ (g : Given). g.name.name) (unwrap_or o [])) gains.given in
               both_ways (gives_each (given_names j) (spelled (parameters (grown m f e) k))) wrong (ap₂ (λ (a : List (List ℕ)) (b : List Id). gives_each a (spelled b)) names params)
 
           by : IsDeclared f e m c d → ⊥
@@ -139,11 +147,13 @@ module _ (f : SystemDecl → SystemDecl) (e : ProcessClassTree) (i : Instance) (
       pub none_holds_itself : (v : Violation) → BreaksC15 (grown m f e) v → ⊥
       none_holds_itself _ (holds_itself c k d j at cluster has is holds) = by (declared f e m c d at)
         where
-          again : (its : HasClass j) → c ≢ suc (length m.decls) → (k ≡ c) ⊎ Holds (grown m f e) k c → (its.number ≡ c) ⊎ Holds m its.number c
+          again : (its : HasClass j) → c ≢ suc (length m.decls) → (k ≡ c) ⊎ Holds (grown m f e) k c
+              → (its.number ≡ c) ⊎ Holds m its.number c
           again its other (inl same) = inl (same_class j its k is ∙ same)
           again its other (inr more) = inr (subst (λ (b : ℕ). Holds m b c) (sym (same_class j its k is)) (holds_as_before k c more other))
 
-          in_cluster : (was : DeclTree) → declaration m c ≡ Some was → IsTrue (is_cluster was) → c ≢ suc (length m.decls) → Contains (instances (grown_decl f was)) j → Contains (instances was) j ⊎ (i ≡ j) → ⊥
+          in_cluster : (was : DeclTree) → declaration m c ≡ Some was → IsTrue (is_cluster was) → c ≢ suc (length m.decls)
+              → Contains (instances (grown_decl f was)) j → Contains (instances was) j ⊎ (i ≡ j) → ⊥
           in_cluster was there is_one other at_all (inl in_was) =
               let its = has_class c was there j in_was in
               sound.rules (violation 15 j.class.pos) (holding (violation 15 j.class.pos) (holds_itself c its.number was j there is_one in_was its.was (again its other holds)))

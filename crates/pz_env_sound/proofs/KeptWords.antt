@@ -32,20 +32,25 @@ broken m c d locals x =
 abbrev pub NoneHolds : List Bool → Type 0
 NoneHolds bs = AllByRecursion (λ (b : Bool). b ≡ false) bs
 
-any_kept : (f : SystemDecl → SystemDecl) (p : DeclTree → Bool) → ((d : DeclTree) → p (grown_decl f d) ≡ p d) → (ds more : List DeclTree) → list_any p ds ≡ true → list_any p (map (grown_decl f) ds ++ more) ≡ true
+any_kept : (f : SystemDecl → SystemDecl) (p : DeclTree → Bool) → ((d : DeclTree) → p (grown_decl f d) ≡ p d) → (ds more : List DeclTree)
+    → list_any p ds ≡ true → list_any p (map (grown_decl f) ds ++ more) ≡ true
 any_kept f p same [] more is = absurd (false≢true is)
-any_kept f p same (d ∷ ds) more is = ap (λ (b : Bool). b || list_any p (map (grown_decl f) ds ++ more)) (same d) ∙ either (p d) (list_any p ds) (p d) (list_any p (map (grown_decl f) ds ++ more)) (λ h. h) (any_kept f p same ds more) is
+any_kept f p same (d ∷ ds) more is =
+    ap (λ (b : Bool). b || list_any p (map (grown_decl f) ds ++ more)) (same d)
+    ∙ either (p d) (list_any p ds) (p d) (list_any p (map (grown_decl f) ds ++ more)) (λ h. h) (any_kept f p same ds more) is
 
 module _ (f : SystemDecl → SystemDecl) (e : ProcessClassTree) (m : ModelTree) where
   type_kept : (name : List ℕ) → is_type m name ≡ true → is_type (grown m f e) name ≡ true
-  type_kept name = either (is_primitive name) (is_declared_as is_data m name) (is_primitive name) (is_declared_as is_data (grown m f e) name) (λ h. h) (sort_kept f e m is_data (data_same f) name)
+  type_kept name =
+      either (is_primitive name) (is_declared_as is_data m name) (is_primitive name) (is_declared_as is_data (grown m f e) name) (λ h. h) (sort_kept f e m is_data (data_same f) name)
 
   c5_kept : (x : Mention) → breaks_c5 m x ≡ false → breaks_c5 (grown m f e) x ≡ false
   c5_kept (Typed x) is = fewer (not (is_unsupported x.name)) (is_type m x.name) (is_type (grown m f e) x.name) (type_kept x.name) is
   c5_kept _ is = refl
 
   declared_kept : (s : Signature) → is_declared m s ≡ true → is_declared (grown m f e) s ≡ true
-  declared_kept s = any_kept f (λ d. list_any (same_signature s) (signatures d)) (λ d. ap (list_any (same_signature s)) (signatures_kept f d)) m.decls (process_class e ∷ [])
+  declared_kept s =
+      any_kept f (λ d. list_any (same_signature s) (signatures d)) (λ d. ap (list_any (same_signature s)) (signatures_kept f d)) m.decls (process_class e ∷ [])
 
   c8_kept : (x : Mention) → breaks_c8 m x ≡ false → breaks_c8 (grown m f e) x ≡ false
   c8_kept (Selector name count) is =
@@ -56,7 +61,8 @@ module _ (f : SystemDecl → SystemDecl) (e : ProcessClassTree) (m : ModelTree) 
   create_kept : (name : List ℕ) → may_create m name ≡ true → may_create (grown m f e) name ≡ true
   create_kept name is = by (is_primitive name) refl is
     where
-      by : (b : Bool) → is_primitive name ≡ b → (if b then is_array name else is_declared_as is_data m name) ≡ true → may_create (grown m f e) name ≡ true
+      by : (b : Bool) → is_primitive name ≡ b → (if b then is_array name else is_declared_as is_data m name) ≡ true
+          → may_create (grown m f e) name ≡ true
       by true prim has = rw prim has
       by false prim has = rw prim (sort_kept f e m is_data (data_same f) name has)
 
@@ -67,7 +73,8 @@ module _ (f : SystemDecl → SystemDecl) (e : ProcessClassTree) (m : ModelTree) 
   pub instances_kept : (name : List ℕ) → has_instances m name ≡ true → has_instances (grown m f e) name ≡ true
   instances_kept name is = by (is_primitive name) refl is
     where
-      by : (b : Bool) → is_primitive name ≡ b → (not b && (is_declared_as is_process m name || is_declared_as is_cluster m name)) ≡ true → has_instances (grown m f e) name ≡ true
+      by : (b : Bool) → is_primitive name ≡ b → (not b && (is_declared_as is_process m name || is_declared_as is_cluster m name)) ≡ true
+          → has_instances (grown m f e) name ≡ true
       by true prim has = absurd (false≢true has)
       by false prim has = rw prim (
           either (is_declared_as is_process m name) (is_declared_as is_cluster m name) (is_declared_as is_process (grown m f e) name) (is_declared_as is_cluster (grown m f e) name)
@@ -93,12 +100,15 @@ module _ (f : SystemDecl → SystemDecl) (e : ProcessClassTree) (m : ModelTree) 
     shared_same (cluster_class d) = refl
     shared_same (system s) = refl
 
-    c6_kept : (was : DeclTree) (locals : List Id) (x : Mention) → breaks_c6 m c was locals x ≡ false → breaks_c6 (grown m f e) c (grown_decl f was) locals x ≡ false
+    c6_kept : (was : DeclTree) (locals : List Id) (x : Mention) → breaks_c6 m c was locals x ≡ false
+        → breaks_c6 (grown m f e) c (grown_decl f was) locals x ≡ false
     c6_kept was locals (Variable x) is = ap (λ (ids : List Id). not (is_among locals x.name) && not (is_among ids x.name)) (shared_same was) ∙ is
     c6_kept was locals _ is = refl
 
     c7_kept : (x : Mention) → breaks_c7 m c x ≡ false → breaks_c7 (grown m f e) c x ≡ false
-    c7_kept (Called name inputs outputs) is = ap (λ (o : Option MethodId). is_none o) (method_same f e m sound reached c (record { name = name.name; counts = Process inputs outputs }) other) ∙ is
+    c7_kept (Called name inputs outputs) is =
+        ap (λ (o : Option MethodId). is_none o) (method_same f e m sound reached c (record { name = name.name; counts = Process inputs outputs }) other)
+        ∙ is
     c7_kept _ is = refl
 
     c9_kept : (x : Mention) → breaks_c9 m c x ≡ false → breaks_c9 (grown m f e) c x ≡ false
@@ -106,8 +116,12 @@ module _ (f : SystemDecl → SystemDecl) (e : ProcessClassTree) (m : ModelTree) 
     c9_kept _ is = refl
 
     c10_kept : (x : Mention) → breaks_c10 m c x ≡ false → breaks_c10 (grown m f e) c x ≡ false
-    c10_kept (Sent port name count) is = ap (λ (xs : List Message). not (list_any (is_message port.name true name.name count) xs)) (messages_same f e m sound reached c other) ∙ is
-    c10_kept (Received port name count) is = ap (λ (xs : List Message). not (list_any (is_message port.name false name.name count) xs)) (messages_same f e m sound reached c other) ∙ is
+    c10_kept (Sent port name count) is =
+        ap (λ (xs : List Message). not (list_any (is_message port.name true name.name count) xs)) (messages_same f e m sound reached c other)
+        ∙ is
+    c10_kept (Received port name count) is =
+        ap (λ (xs : List Message). not (list_any (is_message port.name false name.name count) xs)) (messages_same f e m sound reached c other)
+        ∙ is
     c10_kept _ is = refl
 
     c11_kept : (was : DeclTree) (x : Mention) → breaks_c11 m c was x ≡ false → breaks_c11 (grown m f e) c (grown_decl f was) x ≡ false
@@ -117,7 +131,8 @@ module _ (f : SystemDecl → SystemDecl) (e : ProcessClassTree) (m : ModelTree) 
         ∙ is
     c11_kept was _ is = refl
 
-    pub words_kept : (was : DeclTree) (locals : List Id) (x : Mention) → NoneHolds (broken m c was locals x) → NoneHolds (broken (grown m f e) c (grown_decl f was) locals x)
+    pub words_kept : (was : DeclTree) (locals : List Id) (x : Mention) → NoneHolds (broken m c was locals x)
+        → NoneHolds (broken (grown m f e) c (grown_decl f was) locals x)
     words_kept was locals x (b5, (b6, (b7, (b8, (b9, (b10, (b11, (b12, (b13, (b18, (b21, (b22, _)))))))))))) = (
       c5_kept x b5,
       (

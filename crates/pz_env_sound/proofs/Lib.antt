@@ -24,6 +24,7 @@ pub mod EnvironmentWords
 pub mod Unrefused
 pub mod NewEnds
 pub mod EndsFit
+pub mod EndsFree
 pub mod ClosedSound
 pub mod Limits
 pub mod Marks

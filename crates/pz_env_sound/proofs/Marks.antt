@@ -40,7 +40,8 @@ module _ {A : Type 0} (f : A → List Mark) where
       let all = length-append (f x) (each_text f xs) in
       omega (arith, this, rest, all)
 
-  tail_marks : (b : ℕ) (separator : Symbol) (xs : List A) → ((x : A) → Contains xs x → length (f x) ≤ b) → length (tail_separated f separator xs) ≤ suc b * length xs
+  tail_marks : (b : ℕ) (separator : Symbol) (xs : List A) → ((x : A) → Contains xs x → length (f x) ≤ b)
+      → length (tail_separated f separator xs) ≤ suc b * length xs
   tail_marks b separator [] few = omega arith
   tail_marks b separator (x ∷ xs) few =
       let this = few x (first_in x xs) in
@@ -48,7 +49,8 @@ module _ {A : Type 0} (f : A → List Mark) where
       let all = length-append (f x) (tail_separated f separator xs) in
       omega (arith, this, rest, all)
 
-  separated_marks : (b : ℕ) (separator : Symbol) (xs : List A) → ((x : A) → Contains xs x → length (f x) ≤ b) → length (separated f separator xs) ≤ suc b * length xs
+  separated_marks : (b : ℕ) (separator : Symbol) (xs : List A) → ((x : A) → Contains xs x → length (f x) ≤ b)
+      → length (separated f separator xs) ≤ suc b * length xs
   separated_marks b separator [] few = omega arith
   separated_marks b separator (x ∷ xs) few =
       let this = few x (first_in x xs) in
@@ -65,7 +67,8 @@ module _ {A : Type 0} (f : A → List Mark) where
       omega (arith, all, front, rest)
 
   -- a section to which something is added
-  pub section_marks : (begin : Keyword) (o : Option (List A)) (ys : List A) → length (section begin (each_text f) (Some (unwrap_or o [] ++ ys))) ≤ length (section begin (each_text f) o) + (1 + length (each_text f ys))
+  pub section_marks : (begin : Keyword) (o : Option (List A)) (ys : List A)
+      → length (section begin (each_text f) (Some (unwrap_or o [] ++ ys))) ≤ length (section begin (each_text f) o) + (1 + length (each_text f ys))
   section_marks begin None ys = omega arith
   section_marks begin (Some xs) ys = let all = each_both xs ys in omega (arith, all)
 
@@ -121,7 +124,8 @@ module _ (lines : List Line) where
 
   module _ (values : (x : Line) → Contains lines x → count_in x.entry.transfer ≤ 100) where
     -- a delay has two marks, and a semicolon stands before each statement
-    statements_tail : (xs : List Line) → ((x : Line) → Contains xs x → Contains lines x) → length (statement.tail_texts (statements lines xs)) ≤ 209 * length xs
+    statements_tail : (xs : List Line) → ((x : Line) → Contains xs x → Contains lines x)
+        → length (statement.tail_texts (statements lines xs)) ≤ 209 * length xs
     statements_tail [] within = omega arith
     statements_tail (x ∷ xs) within =
         let this = exchange_marks x x.entry.transfer (values x (within x (first_in x xs))) in
@@ -129,7 +133,8 @@ module _ (lines : List Line) where
         let all = length-append (statement.text (exchange lines x x.entry.transfer)) (statement.tail_texts (statements lines xs)) in
         omega (arith, this, rest, all)
 
-    statements_marks : (xs : List Line) → ((x : Line) → Contains xs x → Contains lines x) → length (statement.texts (statements lines xs)) ≤ 209 * length xs
+    statements_marks : (xs : List Line) → ((x : Line) → Contains xs x → Contains lines x)
+        → length (statement.texts (statements lines xs)) ≤ 209 * length xs
     statements_marks [] within = omega arith
     statements_marks (x ∷ xs) within =
         let this = exchange_marks x x.entry.transfer (values x (within x (first_in x xs))) in

@@ -66,7 +66,8 @@ module _ (f : SystemDecl → SystemDecl) where
   signatures_kept (cluster_class c) = refl
   signatures_kept (system s) = refl
 
-  before_kept : (ds : List DeclTree) (k : ℕ) → sum_by (λ d. length (signatures d)) (take k (map (grown_decl f) ds)) ≡ sum_by (λ d. length (signatures d)) (take k ds)
+  before_kept : (ds : List DeclTree) (k : ℕ)
+      → sum_by (λ d. length (signatures d)) (take k (map (grown_decl f) ds)) ≡ sum_by (λ d. length (signatures d)) (take k ds)
   before_kept ds zero = refl
   before_kept [] (suc k) = refl
   before_kept (d ∷ ds) (suc k) =
@@ -74,7 +75,8 @@ module _ (f : SystemDecl → SystemDecl) where
       ∙ ap₂ (λ (a b : ℕ). a + b) (ap length (signatures_kept d)) (before_kept ds k)
       ∙ sym (sum_by-cons (λ x. length (signatures x)) d (take k ds))
 
-nearest_same : {A : Type 0} (g h : ℕ → Option A) (line : List ℕ) → AllByRecursion (λ (k : ℕ). g k ≡ h k) line → nearest g line ≡ nearest h line
+nearest_same : {A : Type 0} (g h : ℕ → Option A) (line : List ℕ) → AllByRecursion (λ (k : ℕ). g k ≡ h k) line
+    → nearest g line ≡ nearest h line
 nearest_same g h [] all = refl
 nearest_same g h (k ∷ line) all = ap₂ (λ a b. option_or a b) all.0 (nearest_same g h line all.1)
 
@@ -87,24 +89,24 @@ or_none None = refl
 or_none (Some x) = refl
 
 module _ (f : SystemDecl → SystemDecl) (e : ProcessClassTree) (m : ModelTree) where
-  IsOther : ℕ → Type 0
-  IsOther k = k ≢ suc (length m.decls)
-
-  pub at_same : {A : Type 0} (h : DeclTree → A) (z : A) → ((d : DeclTree) → h (grown_decl f d) ≡ h d) → (c : ℕ) → c ≢ suc (length m.decls) → option_map_or h (declaration (grown m f e) c) z ≡ option_map_or h (declaration m c) z
+  pub at_same : {A : Type 0} (h : DeclTree → A) (z : A) → ((d : DeclTree) → h (grown_decl f d) ≡ h d) → (c : ℕ) → c ≢ suc (length m.decls)
+      → option_map_or h (declaration (grown m f e) c) z ≡ option_map_or h (declaration m c) z
   at_same {A} h z kept c other = ap (λ (o : Option DeclTree). option_map_or h o z) (declaration_other f e m c other) ∙ by_decl (declaration m c)
     where
       by_decl : (o : Option DeclTree) → option_map_or h (option_map (grown_decl f) o) z ≡ option_map_or h o z
       by_decl None = refl
       by_decl (Some d) = kept d
 
-  and_same : {A : Type 0} (h : DeclTree → Option A) → ((d : DeclTree) → h (grown_decl f d) ≡ h d) → (c : ℕ) → c ≢ suc (length m.decls) → option_and_then h (declaration (grown m f e) c) ≡ option_and_then h (declaration m c)
+  and_same : {A : Type 0} (h : DeclTree → Option A) → ((d : DeclTree) → h (grown_decl f d) ≡ h d) → (c : ℕ) → c ≢ suc (length m.decls)
+      → option_and_then h (declaration (grown m f e) c) ≡ option_and_then h (declaration m c)
   and_same {A} h kept c other = ap (option_and_then h) (declaration_other f e m c other) ∙ by_decl (declaration m c)
     where
       by_decl : (o : Option DeclTree) → option_and_then h (option_map (grown_decl f) o) ≡ option_and_then h o
       by_decl None = refl
       by_decl (Some d) = kept d
 
-  root_same : (own : DeclTree → List Id) → ((d : DeclTree) → own (grown_decl f d) ≡ own d) → (line : List ℕ) → AllByRecursion (λ (k : ℕ). k ≢ suc (length m.decls)) line → from_root own (grown m f e) line ≡ from_root own m line
+  root_same : (own : DeclTree → List Id) → ((d : DeclTree) → own (grown_decl f d) ≡ own d) → (line : List ℕ)
+      → AllByRecursion (λ (k : ℕ). k ≢ suc (length m.decls)) line → from_root own (grown m f e) line ≡ from_root own m line
   root_same own kept [] all = refl
   root_same own kept (c ∷ line) all = ap₂ (λ (a b : List Id). a ++ b) (root_same own kept line all.1) (at_same own [] kept c all.0)
 
@@ -124,12 +126,14 @@ module _ (f : SystemDecl → SystemDecl) (e : ProcessClassTree) (m : ModelTree) 
       ap (λ (o : List Signature). option_map method_id (first_with (methods_before (grown m f e) c) s o)) (at_same signatures [] (signatures_kept f) c other)
       ∙ by_decl (declaration m c) refl
     where
-      by_decl : (o : Option DeclTree) → declaration m c ≡ o → option_map method_id (first_with (methods_before (grown m f e) c) s (option_map_or signatures o [])) ≡ option_map method_id (first_with (methods_before m c) s (option_map_or signatures o []))
+      by_decl : (o : Option DeclTree) → declaration m c ≡ o
+          → option_map method_id (first_with (methods_before (grown m f e) c) s (option_map_or signatures o [])) ≡ option_map method_id (first_with (methods_before m c) s (option_map_or signatures o []))
       by_decl None at = refl
       by_decl (Some d) at = ap (λ (n : ℕ). option_map method_id (first_with n s (signatures d))) (before_same c (declared_within m c d at))
 
   module _ (sound : IsSound m) (reached : AncestorsAreReached) where
-    rooted : (own : DeclTree → List Id) → ((d : DeclTree) → own (grown_decl f d) ≡ own d) → (c : ℕ) → c ≢ suc (length m.decls) → from_root own (grown m f e) (ancestors (grown m f e) c) ≡ from_root own m (ancestors m c)
+    rooted : (own : DeclTree → List Id) → ((d : DeclTree) → own (grown_decl f d) ≡ own d) → (c : ℕ) → c ≢ suc (length m.decls)
+        → from_root own (grown m f e) (ancestors (grown m f e) c) ≡ from_root own m (ancestors m c)
     rooted own kept c other =
         ap (from_root own (grown m f e)) (ancestors_same f e m sound reached c other)
         ∙ root_same own kept (ancestors m c) (ancestors_other f e m sound c other)
@@ -151,13 +155,15 @@ module _ (f : SystemDecl → SystemDecl) (e : ProcessClassTree) (m : ModelTree) 
         ap (flat_map (λ a. option_map_or own_messages (declaration (grown m f e) a) [])) (ancestors_same f e m sound reached c other)
         ∙ flat_same (ancestors m c) (ancestors_other f e m sound c other)
 
-    nearest_kept : {A : Type 0} (g h : ℕ → Option A) → ((c : ℕ) → c ≢ suc (length m.decls) → g c ≡ h c) → (c : ℕ) → c ≢ suc (length m.decls) → nearest g (ancestors (grown m f e) c) ≡ nearest h (ancestors m c)
+    nearest_kept : {A : Type 0} (g h : ℕ → Option A) → ((c : ℕ) → c ≢ suc (length m.decls) → g c ≡ h c) → (c : ℕ) → c ≢ suc (length m.decls)
+        → nearest g (ancestors (grown m f e) c) ≡ nearest h (ancestors m c)
     nearest_kept g h kept c other =
         ap (nearest g) (ancestors_same f e m sound reached c other)
         ∙ nearest_same g h (ancestors m c) (each (λ (k : ℕ). k ≢ suc (length m.decls)) (λ (k : ℕ). g k ≡ h k) (ancestors m c) kept (ancestors_other f e m sound c other))
 
     pub start_same : (c : ℕ) → c ≢ suc (length m.decls) → start (grown m f e) c ≡ start m c
-    start_same = nearest_kept (λ a. option_and_then own_start (declaration (grown m f e) a)) (λ a. option_and_then own_start (declaration m a)) (and_same own_start (start_kept f))
+    start_same =
+        nearest_kept (λ a. option_and_then own_start (declaration (grown m f e) a)) (λ a. option_and_then own_start (declaration m a)) (and_same own_start (start_kept f))
 
     pub method_same : (c : ℕ) (s : Signature) → c ≢ suc (length m.decls) → method_with (grown m f e) c s ≡ method_with m c s
     method_same c s other = nearest_kept (own_method (grown m f e) s) (own_method m s) (own_method_same s) c other
@@ -165,7 +171,8 @@ module _ (f : SystemDecl → SystemDecl) (e : ProcessClassTree) (m : ModelTree) 
     -- The new class has what it declares
 
     module _ (alone : e.parent ≡ None) where
-      rooted_new : (own : DeclTree → List Id) → from_root own (grown m f e) (ancestors (grown m f e) (suc (length m.decls))) ≡ own (process_class e)
+      rooted_new : (own : DeclTree → List Id)
+          → from_root own (grown m f e) (ancestors (grown m f e) (suc (length m.decls))) ≡ own (process_class e)
       rooted_new own =
           ap (from_root own (grown m f e)) (ancestors_new f e m sound alone)
           ∙ ap (λ (o : Option DeclTree). option_map_or own o []) (declaration_new f e m)
@@ -194,7 +201,8 @@ module _ (f : SystemDecl → SystemDecl) (e : ProcessClassTree) (m : ModelTree) 
           ∙ ap (λ (o : Option DeclTree). option_or (option_and_then own_start o) None) (declaration_new f e m)
           ∙ or_none e.start
 
-      pub method_new : (s : Signature) → method_with (grown m f e) (suc (length m.decls)) s ≡ option_map method_id (first_with (methods_before (grown m f e) (suc (length m.decls))) s (signatures (process_class e)))
+      pub method_new : (s : Signature)
+          → method_with (grown m f e) (suc (length m.decls)) s ≡ option_map method_id (first_with (methods_before (grown m f e) (suc (length m.decls))) s (signatures (process_class e)))
       method_new s =
           ap (nearest (own_method (grown m f e) s)) (ancestors_new f e m sound alone)
           ∙ ap (λ (o : Option DeclTree). option_or (option_map method_id (first_with (methods_before (grown m f e) (suc (length m.decls))) s (option_map_or signatures o []))) None) (declaration_new f e m)

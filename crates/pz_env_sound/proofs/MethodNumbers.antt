@@ -35,7 +35,8 @@ pub first_within : (n : ℕ) (s : Signature) (ts : List Signature) (k : ℕ) →
 first_within n s [] k is = absurd (none_some k is)
 first_within n s (t ∷ ts) k is = by (same_signature s t) is (first_within (suc n) s ts k)
   where
-    by : (b : Bool) → (if b then Some n else first_with (suc n) s ts) ≡ Some k → (first_with (suc n) s ts ≡ Some k → (suc n ≤ k) × (k < suc n + length ts)) → (n ≤ k) × (k < n + suc (length ts))
+    by : (b : Bool) → (if b then Some n else first_with (suc n) s ts) ≡ Some k
+        → (first_with (suc n) s ts ≡ Some k → (suc n ≤ k) × (k < suc n + length ts)) → (n ≤ k) × (k < n + suc (length ts))
     by true has rest = let this : n ≡ k = some_same n k has in (omega arith, omega arith)
     by false has rest = let later = rest has in (omega (arith, later.0), omega (arith, later.1))
 
@@ -61,12 +62,16 @@ module _ (m : ModelTree) where
     where
       at : (c : ℕ) (d : DeclTree) → declaration m c ≡ Some d → methods_before m c + many d ≤ sum_by many m.decls
       at zero d there = absurd (none_some d there)
-      at (suc i) d there = let number : suc i - 1 ≡ i = omega arith in subst (λ (j : ℕ). sum_by many (take j m.decls) + many d ≤ sum_by many m.decls) (sym number) (before_all m.decls i d there)
+      at (suc i) d there =
+          let number : suc i - 1 ≡ i = omega arith in subst (λ (j : ℕ). sum_by many (take j m.decls) + many d ≤ sum_by many m.decls) (sym number) (before_all m.decls i d there)
 
-      by : (c : ℕ) (o : Option DeclTree) → declaration m c ≡ o → first_with (methods_before m c) s (option_map_or signatures (declaration m c) []) ≡ Some k → k < length (methods m)
-      by c None there has = absurd (none_some k (sym (ap (λ (p : Option DeclTree). first_with (methods_before m c) s (option_map_or signatures p [])) there) ∙ has))
+      by : (c : ℕ) (o : Option DeclTree) → declaration m c ≡ o
+          → first_with (methods_before m c) s (option_map_or signatures (declaration m c) []) ≡ Some k → k < length (methods m)
+      by c None there has =
+          absurd (none_some k (sym (ap (λ (p : Option DeclTree). first_with (methods_before m c) s (option_map_or signatures p [])) there) ∙ has))
       by c (Some d) there has =
-          let low = first_within (methods_before m c) s (signatures d) k (sym (ap (λ (p : Option DeclTree). first_with (methods_before m c) s (option_map_or signatures p [])) there) ∙ has) in
+          let low =
+          first_within (methods_before m c) s (signatures d) k (sym (ap (λ (p : Option DeclTree). first_with (methods_before m c) s (option_map_or signatures p [])) there) ∙ has) in
           let most = at c d there in
           let all = methods_counted m.decls in
           omega (arith, low.1, most, all)
@@ -75,7 +80,8 @@ module _ (m : ModelTree) where
   nearest_within s [] k is = absurd (none_some (method_id k) is)
   nearest_within s (c ∷ line) k is = by (own_method m s c) refl is (nearest_within s line k)
     where
-      by : (o : Option MethodId) → own_method m s c ≡ o → option_or o (nearest (own_method m s) line) ≡ Some (method_id k) → (nearest (own_method m s) line ≡ Some (method_id k) → k < length (methods m)) → k < length (methods m)
+      by : (o : Option MethodId) → own_method m s c ≡ o → option_or o (nearest (own_method m s) line) ≡ Some (method_id k)
+          → (nearest (own_method m s) line ≡ Some (method_id k) → k < length (methods m)) → k < length (methods m)
       by None at has rest = rest has
       by (Some r) at has rest = own_within s c k (at ∙ has)
 
@@ -97,7 +103,8 @@ methods_kept f (process_class c) = refl
 methods_kept f (cluster_class c) = refl
 methods_kept f (system s) = refl
 
-pub methods_in : (f : SystemDecl → SystemDecl) (e : ProcessClassTree) (ds : List DeclTree) → flat_map declared_methods (map (grown_decl f) ds ++ process_class e ∷ []) ≡ flat_map declared_methods ds ++ declared_methods (process_class e)
+pub methods_in : (f : SystemDecl → SystemDecl) (e : ProcessClassTree) (ds : List DeclTree)
+    → flat_map declared_methods (map (grown_decl f) ds ++ process_class e ∷ []) ≡ flat_map declared_methods ds ++ declared_methods (process_class e)
 methods_in f e [] = append-nil (declared_methods (process_class e))
 methods_in f e (d ∷ ds) =
     ap₂ (λ (a b : List (Option ProcessMethodTree)). a ++ b) (methods_kept f d) (methods_in f e ds)

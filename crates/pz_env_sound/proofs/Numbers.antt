@@ -14,7 +14,8 @@ number_within : (ds : List DeclTree) (n k : ℕ) (name : List ℕ) → first_nam
 number_within [] n k name is = absurd (none_some k is)
 number_within (d ∷ ds) n k name is = by (is_named name d) refl (number_within ds (suc n) k name)
   where
-    by : (b : Bool) → is_named name d ≡ b → (first_named ds (suc n) name ≡ Some k → (suc n ≤ k) × (k < suc n + length ds)) → (n ≤ k) × (k < n + suc (length ds))
+    by : (b : Bool) → is_named name d ≡ b → (first_named ds (suc n) name ≡ Some k → (suc n ≤ k) × (k < suc n + length ds))
+        → (n ≤ k) × (k < n + suc (length ds))
     by true has rest = let this : n ≡ k = some_same n k (rw has at is) in (omega arith, omega arith)
     by false has rest = let later = rest (rw has at is) in (omega (arith, later.0), omega (arith, later.1))
 

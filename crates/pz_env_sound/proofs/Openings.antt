@@ -27,12 +27,14 @@ use Rattle.pz_env_sound.proofs.MethodNumbers.{many, methods_counted, first_withi
 alike : {A B : Type 0} (f g : A → B) → ((x : A) → f x ≡ g x) → f ≡ g
 alike f g agree = λ i. λ x. agree x i
 
-module _ (f : SystemDecl → SystemDecl) (e : ProcessClassTree) (m : ModelTree) (sound : IsSound m) (reached : AncestorsAreReached) (fresh : IsFresh m e) (opens : Opens m) where
+module _ (f : SystemDecl → SystemDecl) (e : ProcessClassTree) (m : ModelTree) (sound : IsSound m) (reached : AncestorsAreReached)
+    (fresh : IsFresh m e) (opens : Opens m) where
   abbrev n : ModelTree
   n = grown m f e
 
   method_still : (k : ℕ) → k < length (methods m) → method_at n k ≡ method_at m k
-  method_still k low = ap (λ (o : Option (Option ProcessMethodTree)). unwrap_or o None) (ap (λ (xs : List (Option ProcessMethodTree)). slice_get xs k) (methods_in f e m.decls) ∙ in_front (methods m) (declared_methods (process_class e)) k low)
+  method_still k low =
+      ap (λ (o : Option (Option ProcessMethodTree)). unwrap_or o None) (ap (λ (xs : List (Option ProcessMethodTree)). slice_get xs k) (methods_in f e m.decls) ∙ in_front (methods m) (declared_methods (process_class e)) k low)
 
   begun_still : (k : ℕ) → k < length (methods m) → begun_at n k ≡ begun_at m k
   begun_still k low = ap (λ (o : Option ProcessMethodTree). begun_all (option_map_or (λ r. r.body) o no_statements)) (method_still k low)
@@ -61,7 +63,8 @@ module _ (f : SystemDecl → SystemDecl) (e : ProcessClassTree) (m : ModelTree) 
         let rest = leads_still k p low before in
         (further p l x rest.0 (subst (λ (xs : List Id). Contains xs x) (begun_still p rest.1) begins) (sym (called_same x) ∙ is), called_within x l is)
 
-    of_called_same : (g h : ℕ → ℕ) → ((l : ℕ) → l < length (methods m) → g l ≡ h l) → (x : Id) → of_called g (called n c x) ≡ of_called h (called m c x)
+    of_called_same : (g h : ℕ → ℕ) → ((l : ℕ) → l < length (methods m) → g l ≡ h l) → (x : Id)
+        → of_called g (called n c x) ≡ of_called h (called m c x)
     of_called_same g h same x = by (called n c x) refl ∙ ap (of_called h) (called_same x)
       where
         by : (o : Option MethodId) → called n c x ≡ o → of_called g (called n c x) ≡ of_called h (called n c x)
@@ -87,10 +90,13 @@ module _ (f : SystemDecl → SystemDecl) (e : ProcessClassTree) (m : ModelTree) 
   module _ (r : ProcessMethodTree) (one : e.methods ≡ Some (r ∷ [])) where
     new_number : (k : ℕ) → HasMethod n (suc (length m.decls)) k → k ≡ length (methods m)
     new_number k has =
-        let its : option_map method_id (first_with (methods_before n (suc (length m.decls))) has.0 (signatures (process_class e))) ≡ Some (method_id k) = sym (method_new f e m sound reached fresh.alone has.0) ∙ has.1 in
-        let first : first_with (methods_before n (suc (length m.decls))) has.0 (signatures (process_class e)) ≡ Some k = number_of (first_with (methods_before n (suc (length m.decls))) has.0 (signatures (process_class e))) k its in
+        let its : option_map method_id (first_with (methods_before n (suc (length m.decls))) has.0 (signatures (process_class e))) ≡ Some (method_id k) =
+        sym (method_new f e m sound reached fresh.alone has.0) ∙ has.1 in
+        let first : first_with (methods_before n (suc (length m.decls))) has.0 (signatures (process_class e)) ≡ Some k =
+        number_of (first_with (methods_before n (suc (length m.decls))) has.0 (signatures (process_class e))) k its in
         let within = first_within (methods_before n (suc (length m.decls))) has.0 (signatures (process_class e)) k first in
-        let alone : length (signatures (process_class e)) ≡ 1 = ap (λ (o : Option (List ProcessMethodTree)). length (map process_signature (unwrap_or o []))) one in
+        let alone : length (signatures (process_class e)) ≡ 1 =
+        ap (λ (o : Option (List ProcessMethodTree)). length (map process_signature (unwrap_or o []))) one in
         let before : methods_before n (suc (length m.decls)) ≡ length (methods m) = all_before in
         omega (arith, within.0, within.1, alone, before)
       where
@@ -125,13 +131,21 @@ module _ (f : SystemDecl → SystemDecl) (e : ProcessClassTree) (m : ModelTree) 
 
     module _ (begins : begun_all r.body ≡ []) (calls : all_plain_calls r.body ≡ []) (short : statements_in_all r.body ≤ 1000000) where
       new_begins : (k : ℕ) → HasMethod n (suc (length m.decls)) k → begun_at n k ≡ []
-      new_begins k has = ap (begun_at n) (new_number k has) ∙ ap (λ (o : Option ProcessMethodTree). begun_all (option_map_or (λ q. q.body) o no_statements)) new_method ∙ begins
+      new_begins k has =
+          ap (begun_at n) (new_number k has)
+          ∙ ap (λ (o : Option ProcessMethodTree). begun_all (option_map_or (λ q. q.body) o no_statements)) new_method
+          ∙ begins
 
       new_calls : (k : ℕ) → HasMethod n (suc (length m.decls)) k → calls_at n k ≡ []
-      new_calls k has = ap (calls_at n) (new_number k has) ∙ ap (λ (o : Option ProcessMethodTree). all_plain_calls (option_map_or (λ q. q.body) o no_statements)) new_method ∙ calls
+      new_calls k has =
+          ap (calls_at n) (new_number k has)
+          ∙ ap (λ (o : Option ProcessMethodTree). all_plain_calls (option_map_or (λ q. q.body) o no_statements)) new_method
+          ∙ calls
 
       new_statements : (k : ℕ) → HasMethod n (suc (length m.decls)) k → statements_at n k ≡ statements_in_all r.body
-      new_statements k has = ap (statements_at n) (new_number k has) ∙ ap (λ (o : Option ProcessMethodTree). statements_in_all (option_map_or (λ q. q.body) o no_statements)) new_method
+      new_statements k has =
+          ap (statements_at n) (new_number k has)
+          ∙ ap (λ (o : Option ProcessMethodTree). statements_in_all (option_map_or (λ q. q.body) o no_statements)) new_method
 
       rounds : (v : Violation) → BreaksC23 n v → ⊥
       rounds _ (round c k l d x at process has begun is leads) = by (declared f e m c d at)
@@ -159,7 +173,8 @@ module _ (f : SystemDecl → SystemDecl) (e : ProcessClassTree) (m : ModelTree) 
           by (new number same) =
               let its = subst (λ (b : ℕ). HasMethod n b k) number has in
               let g : Id → ℕ = λ x. of_called (opened_to n c depth) (called n c x) in
-              let all : spread_to n c depth k ≡ statements_in_all r.body + sum_by g [] = ap₂ (λ (a : ℕ) (xs : List Id). a + sum_by g xs) (new_statements k its) (new_calls k its) in
+              let all : spread_to n c depth k ≡ statements_in_all r.body + sum_by g [] =
+              ap₂ (λ (a : ℕ) (xs : List Id). a + sum_by g xs) (new_statements k its) (new_calls k its) in
               let none : sum_by g [] ≡ 0 = refl in
               omega (arith, large, all, none, short)
 

@@ -62,8 +62,10 @@ way_same false false is = refl
 
 pub said_tells : (x y : Line) → is_same_message x y ≡ true → said x ≡ said y
 said_tells x y is =
-    let first = and_parts (is_same_end x y) (is_same_way (is_sent x.entry.transfer) (is_sent y.entry.transfer) && (bytes_eq x.entry.message y.entry.message && count_in x.entry.transfer == count_in y.entry.transfer)) is in
-    let second = and_parts (is_same_way (is_sent x.entry.transfer) (is_sent y.entry.transfer)) (bytes_eq x.entry.message y.entry.message && count_in x.entry.transfer == count_in y.entry.transfer) first.1 in
+    let first =
+    and_parts (is_same_end x y) (is_same_way (is_sent x.entry.transfer) (is_sent y.entry.transfer) && (bytes_eq x.entry.message y.entry.message && count_in x.entry.transfer == count_in y.entry.transfer)) is in
+    let second =
+    and_parts (is_same_way (is_sent x.entry.transfer) (is_sent y.entry.transfer)) (bytes_eq x.entry.message y.entry.message && count_in x.entry.transfer == count_in y.entry.transfer) first.1 in
     let third = and_parts (bytes_eq x.entry.message y.entry.message) (count_in x.entry.transfer == count_in y.entry.transfer) second.1 in
     ap (λ (k : EndKey). record { end = k; out = is_sent x.entry.transfer; message = x.entry.message; count = count_in x.entry.transfer }) (ends_tell x y first.0)
     ∙ ap (λ (b : Bool). record { end = end_key y; out = b; message = x.entry.message; count = count_in x.entry.transfer }) (same_way (is_sent x.entry.transfer) (is_sent y.entry.transfer) second.0)
@@ -115,7 +117,8 @@ module _ (lines : List Line) where
       (h.first, subst (λ (ys : List Line). Contains ys h.first) (sym (messages_are lines)) h.there, h.alike)
 
 -- what passes a test stands where the first one that does stands, or behind
-position_there : {A : Type 0} (p : A → Bool) (xs : List A) (y : A) → Contains xs y → p y ≡ true → (z : A) × (slice_get xs (position_or_len p xs) ≡ Some z) × (p z ≡ true)
+position_there : {A : Type 0} (p : A → Bool) (xs : List A) (y : A) → Contains xs y → p y ≡ true
+    → (z : A) × (slice_get xs (position_or_len p xs) ≡ Some z) × (p z ≡ true)
 position_there p [] y has is = absurd (none_in y has)
 position_there {A} p (x ∷ xs) y has is = by_test (p x) refl (position_there p xs y)
   where
@@ -133,9 +136,11 @@ position_there {A} p (x ∷ xs) y has is = by_test (p x) refl (position_there p 
 
 module _ (lines : List Line) where
   pub number_same : (x y : Line) → end_key x ≡ end_key y → end_number lines x ≡ end_number lines y
-  number_same x y same = ap (λ (k : EndKey). position_or_len (λ (z : Line). bytes_eq z.entry.instance k.0 && bytes_eq z.entry.port k.1) (first_mentions lines)) same
+  number_same x y same =
+      ap (λ (k : EndKey). position_or_len (λ (z : Line). bytes_eq z.entry.instance k.0 && bytes_eq z.entry.port k.1) (first_mentions lines)) same
 
-  numbered : (x : Line) → Contains lines x → (z : Line) × (slice_get (first_mentions lines) (end_number lines x) ≡ Some z) × (end_key z ≡ end_key x)
+  numbered : (x : Line) → Contains lines x
+      → (z : Line) × (slice_get (first_mentions lines) (end_number lines x) ≡ Some z) × (end_key z ≡ end_key x)
   numbered x has =
       let first = mentioned_first lines x has in
       let at = position_there (λ (z : Line). is_same_end z x) (first_mentions lines) first.0 first.1 (ends_told first.0 x first.2) in
@@ -156,7 +161,8 @@ module _ (lines : List Line) where
       sym a.2 ∙ ap end_key one ∙ b.2
 
   -- lines with one port have one end
-  pub port_tells : length lines ≤ 100000 → (x y : Line) → Contains lines x → Contains lines y → (port_of lines x).name ≡ (port_of lines y).name → end_key x ≡ end_key y
+  pub port_tells : length lines ≤ 100000 → (x y : Line) → Contains lines x → Contains lines y
+      → (port_of lines x).name ≡ (port_of lines y).name → end_key x ≡ end_key y
   port_tells few x y has_x has_y same =
       number_tells x y has_x has_y
       (decimal_injective (end_number lines x) (end_number lines y) (short x has_x) (short y has_y) (ap (drop 1) same))

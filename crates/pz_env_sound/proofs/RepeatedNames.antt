@@ -39,12 +39,14 @@ headings_kept f (process_class c) = refl
 headings_kept f (cluster_class c) = refl
 headings_kept f (system s) = refl
 
-module _ (f : SystemDecl → SystemDecl) (e : ProcessClassTree) (i : Instance) (m : ModelTree) (sound : IsSound m) (reached : AncestorsAreReached) (fresh : IsFresh m e) (gains : Gains f e i) (is_apart : IsApart e) where
+module _ (f : SystemDecl → SystemDecl) (e : ProcessClassTree) (i : Instance) (m : ModelTree) (sound : IsSound m)
+    (reached : AncestorsAreReached) (fresh : IsFresh m e) (gains : Gains f e i) (is_apart : IsApart e) where
   breaks_m : (v : Violation) → BreaksC4 m v → ⊥
   breaks_m v wrong = sound.rules v (a_repeat v wrong)
 
   -- among what a class and its ancestors have
-  in_class : (has : ModelTree → ℕ → List Id) → ((c : ℕ) → c ≢ suc (length m.decls) → has (grown m f e) c ≡ has m c) → (own : List Id) → has (grown m f e) (suc (length m.decls)) ≡ own → (y : Id)
+  in_class : (has : ModelTree → ℕ → List Id) → ((c : ℕ) → c ≢ suc (length m.decls) → has (grown m f e) c ≡ has m c) → (own : List Id)
+      → has (grown m f e) (suc (length m.decls)) ≡ own → (y : Id)
       → (RepeatsName own y → ⊥) → ((c : ℕ) → RepeatsName (has m c) y → ⊥) → (c : ℕ) → RepeatsName (has (grown m f e) c) y → ⊥
   in_class has same own is_new y none never c again = by (cases_eq c (suc (length m.decls)))
     where
@@ -52,7 +54,8 @@ module _ (f : SystemDecl → SystemDecl) (e : ProcessClassTree) (i : Instance) (
       by (inl number) = none (subst (λ (ids : List Id). RepeatsName ids y) (ap (has (grown m f e)) number ∙ is_new) again)
       by (inr other) = never c (subst (λ (ids : List Id). RepeatsName ids y) (same c other) again)
 
-  part_locals : (c : ℕ) (was : DeclTree) → declaration m c ≡ Some was → (p : LocalScope) (y : Id) → Contains (parts (grown_decl f was)) p → RepeatsName p.locals y → ⊥
+  part_locals : (c : ℕ) (was : DeclTree) → declaration m c ≡ Some was → (p : LocalScope) (y : Id) → Contains (parts (grown_decl f was)) p
+      → RepeatsName p.locals y → ⊥
   part_locals c (data_class d) there p y has again = breaks_m (violation 4 y.pos) (again_local c (data_class d) p y there has again)
   part_locals c (process_class d) there p y has again = breaks_m (violation 4 y.pos) (again_local c (process_class d) p y there has again)
   part_locals c (cluster_class d) there p y has again = breaks_m (violation 4 y.pos) (again_local c (cluster_class d) p y there has again)
@@ -62,30 +65,37 @@ module _ (f : SystemDecl → SystemDecl) (e : ProcessClassTree) (i : Instance) (
       (none_in p)
       (in_cases (system_part (f s)) [] p has)
 
-  module _ (free : (c : ℕ) (s : SystemDecl) → declaration m c ≡ Some (system s) → (x : Id) → Contains (map (λ (j : Instance). j.name) (instances (system s))) x → (IsTrue (same_name x i.name) → ⊥) × (IsTrue (same_name i.name x) → ⊥)) where
+  module _
+      (free : (c : ℕ) (s : SystemDecl) → declaration m c ≡ Some (system s) → (x : Id) → Contains (map (λ (j : Instance). j.name) (instances (system s))) x → (IsTrue (same_name x i.name) → ⊥) × (IsTrue (same_name i.name x) → ⊥)) where
     pub names_of : Instance → Id
     names_of j = j.name
 
-    in_system : (c : ℕ) (s : SystemDecl) → declaration m c ≡ Some (system s) → (y : Id) → RepeatsName (map (λ (j : Instance). j.name) (instances (system (f s)))) y → ⊥
-    in_system c s there y again = by (in_parts same_name (λ (x : Id). x.pos) (map (λ (j : Instance). j.name) (instances (system s))) (i.name ∷ []) y across back split)
+    in_system : (c : ℕ) (s : SystemDecl) → declaration m c ≡ Some (system s) → (y : Id)
+        → RepeatsName (map (λ (j : Instance). j.name) (instances (system (f s)))) y → ⊥
+    in_system c s there y again =
+        by (in_parts same_name (λ (x : Id). x.pos) (map (λ (j : Instance). j.name) (instances (system s))) (i.name ∷ []) y across back split)
       where
         split : RepeatsName (map (λ (j : Instance). j.name) (instances (system s)) ++ i.name ∷ []) y
-        split = subst (λ (xs : List Id). RepeatsName xs y) (ap (map (λ (j : Instance). j.name)) (gains.instances s) ∙ map-append (λ (j : Instance). j.name) (instances (system s)) (i ∷ [])) again
+        split =
+            subst (λ (xs : List Id). RepeatsName xs y) (ap (map (λ (j : Instance). j.name)) (gains.instances s) ∙ map-append (λ (j : Instance). j.name) (instances (system s)) (i ∷ [])) again
 
         is_last : (b : Id) → Contains (i.name ∷ []) b → i.name ≡ b
         is_last b at = ⊎_elim (λ same. same) (λ none. absurd (none_in b none)) (in_cases i.name [] b at)
 
-        across : (a b : Id) → Contains (map (λ (j : Instance). j.name) (instances (system s))) a → Contains (i.name ∷ []) b → IsTrue (same_name a b) → ⊥
+        across : (a b : Id) → Contains (map (λ (j : Instance). j.name) (instances (system s))) a → Contains (i.name ∷ []) b
+            → IsTrue (same_name a b) → ⊥
         across a b in_a in_b same = (free c s there a in_a).0 (subst (λ (z : Id). IsTrue (same_name a z)) (sym (is_last b in_b)) same)
 
-        back : (a b : Id) → Contains (map (λ (j : Instance). j.name) (instances (system s))) a → Contains (i.name ∷ []) b → IsTrue (same_name b a) → ⊥
+        back : (a b : Id) → Contains (map (λ (j : Instance). j.name) (instances (system s))) a → Contains (i.name ∷ []) b
+            → IsTrue (same_name b a) → ⊥
         back a b in_a in_b same = (free c s there a in_a).1 (subst (λ (z : Id). IsTrue (same_name z a)) (sym (is_last b in_b)) same)
 
         by : RepeatsName (map (λ (j : Instance). j.name) (instances (system s))) y ⊎ RepeatsName (i.name ∷ []) y → ⊥
         by (inl before) = breaks_m (violation 4 y.pos) (again_instance c (system s) y there before)
         by (inr one) = one_repeats same_name (λ (x : Id). x.pos) i.name y one
 
-    in_level : (c : ℕ) (was : DeclTree) → declaration m c ≡ Some was → (y : Id) → RepeatsName (map (λ (j : Instance). j.name) (instances (grown_decl f was))) y → ⊥
+    in_level : (c : ℕ) (was : DeclTree) → declaration m c ≡ Some was → (y : Id)
+        → RepeatsName (map (λ (j : Instance). j.name) (instances (grown_decl f was))) y → ⊥
     in_level c (data_class d) there y again = none_repeats same_name (λ (x : Id). x.pos) y again
     in_level c (process_class d) there y again = none_repeats same_name (λ (x : Id). x.pos) y again
     in_level c (cluster_class d) there y again = breaks_m (violation 4 y.pos) (again_instance c (cluster_class d) y there again)
@@ -110,7 +120,8 @@ module _ (f : SystemDecl → SystemDecl) (e : ProcessClassTree) (i : Instance) (
       where
         by : IsDeclared f e m c d → ⊥
         by (old was there same) = in_level c was there y (subst (λ (z : DeclTree). RepeatsName (map (λ (j : Instance). j.name) (instances z)) y) same again)
-        by (new number same) = none_repeats same_name (λ (x : Id). x.pos) y (subst (λ (z : DeclTree). RepeatsName (map (λ (j : Instance). j.name) (instances z)) y) same again)
+        by (new number same) =
+            none_repeats same_name (λ (x : Id). x.pos) y (subst (λ (z : DeclTree). RepeatsName (map (λ (j : Instance). j.name) (instances z)) y) same again)
     no_repeat _ (again_method c d y at again) = by (declared f e m c d at)
       where
         by : IsDeclared f e m c d → ⊥

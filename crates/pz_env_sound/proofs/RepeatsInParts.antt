@@ -29,7 +29,8 @@ module _ {A : Type 0} where
       on (behind j number there) = behind j (omega (arith, number)) there
 
   module _ (same : A → A → Bool) (place : A → Pos) where
-    pub in_parts : (xs ys : List A) (y : A) → ((a b : A) → Contains xs a → Contains ys b → IsTrue (same a b) → ⊥) → ((a b : A) → Contains xs a → Contains ys b → IsTrue (same b a) → ⊥)
+    pub in_parts : (xs ys : List A) (y : A) → ((a b : A) → Contains xs a → Contains ys b → IsTrue (same a b) → ⊥)
+        → ((a b : A) → Contains xs a → Contains ys b → IsTrue (same b a) → ⊥)
         → Repeats same place (xs ++ ys) y → Repeats same place xs y ⊎ Repeats same place ys y
     in_parts xs ys y across back r = by (is_at xs ys r.first_at r.first r.first_there) (is_at xs ys r.again_at y r.again_there)
       where

@@ -32,7 +32,8 @@ declared_in (process_class c ∷ ds) s has = let r = declared_in ds s has in (su
 declared_in (cluster_class c ∷ ds) s has = let r = declared_in ds s has in (suc r.0, r.1)
 declared_in (system t ∷ ds) s has = by (in_cases t (flat_map system_of ds) s has) (declared_in ds s)
   where
-    by : (t ≡ s) ⊎ Contains (flat_map system_of ds) s → (Contains (flat_map system_of ds) s → (k : ℕ) × (slice_get ds k ≡ Some (system s))) → (k : ℕ) × (slice_get (system t ∷ ds) k ≡ Some (system s))
+    by : (t ≡ s) ⊎ Contains (flat_map system_of ds) s → (Contains (flat_map system_of ds) s → (k : ℕ) × (slice_get ds k ≡ Some (system s)))
+        → (k : ℕ) × (slice_get (system t ∷ ds) k ≡ Some (system s))
     by (inl same) rest = (0, ap (λ (x : SystemDecl). Some (system x)) same)
     by (inr later) rest = let r = rest later in (suc r.0, r.1)
 
@@ -56,7 +57,8 @@ module _ (f : SystemDecl → SystemDecl) (e : ProcessClassTree) where
     pub clusters : (all_of m g (xs ++ i ∷ [])).clusters ≡ (all_of m g xs).clusters + t.clusters
     pub channels : (all_of m g (xs ++ i ∷ [])).channels ≡ (all_of m g xs).channels + t.channels
 
-  one_more : (m : ModelTree) (g : ℕ → Totals) (xs : List Instance) (i : Instance) (t : Totals) → option_map_or g (instance_class m i.class.name) nothing ≡ t → OneMore m g xs i t
+  one_more : (m : ModelTree) (g : ℕ → Totals) (xs : List Instance) (i : Instance) (t : Totals)
+      → option_map_or g (instance_class m i.class.name) nothing ≡ t → OneMore m g xs i t
   one_more m g [] i t is =
       let p : (option_map_or g (instance_class m i.class.name) nothing).processes ≡ t.processes = ap (λ (u : Totals). u.processes) is in
       let k : (option_map_or g (instance_class m i.class.name) nothing).clusters ≡ t.clusters = ap (λ (u : Totals). u.clusters) is in
@@ -69,7 +71,8 @@ module _ (f : SystemDecl → SystemDecl) (e : ProcessClassTree) where
       let h = rest.channels in
       record { processes = omega (arith, p); clusters = omega (arith, k); channels = omega (arith, h) }
 
-module _ (f : SystemDecl → SystemDecl) (e : ProcessClassTree) (i : Instance) (more : List Channel) (m : ModelTree) (gains : Gains f e i) (joins : Joins f more) (sound : IsSound m) (reached : AncestorsAreReached) (fresh : IsFresh m e) (systems_fit : SoundSystemsFit) where
+module _ (f : SystemDecl → SystemDecl) (e : ProcessClassTree) (i : Instance) (more : List Channel) (m : ModelTree) (gains : Gains f e i)
+    (joins : Joins f more) (sound : IsSound m) (reached : AncestorsAreReached) (fresh : IsFresh m e) (systems_fit : SoundSystemsFit) where
   fits : SystemFits m
   fits = systems_fit m sound
 
@@ -81,14 +84,17 @@ module _ (f : SystemDecl → SystemDecl) (e : ProcessClassTree) (i : Instance) (
       ∙ by part.decl part.declared part.sort (counted_before l)
       ∙ sym (ap (λ (o : Option DeclTree). option_map_or (one_of m (expanded m l)) o nothing) part.declared)
     where
-      by : (d : DeclTree) → declaration m b ≡ Some d → is_process d || is_cluster d ≡ true → ((k : ℕ) → IsPart m k → expanded (grown m f e) l k ≡ expanded m l k) → one_of (grown m f e) (expanded (grown m f e) l) (grown_decl f d) ≡ one_of m (expanded m l) d
+      by : (d : DeclTree) → declaration m b ≡ Some d → is_process d || is_cluster d ≡ true
+          → ((k : ℕ) → IsPart m k → expanded (grown m f e) l k ≡ expanded m l k)
+          → one_of (grown m f e) (expanded (grown m f e) l) (grown_decl f d) ≡ one_of m (expanded m l) d
       by (data_class c) at sort rest = refl
       by (process_class c) at sort rest = refl
       by (cluster_class c) at sort rest =
           ap (plus (record { processes = 0; clusters = 1; channels = length (channels (cluster_class c)) }))
           (all_alike (grown m f e) m (expanded (grown m f e) l) (expanded m l) (instances (cluster_class c)) alike)
         where
-          alike : (j : Instance) → Contains (instances (cluster_class c)) j → option_map_or (expanded (grown m f e) l) (instance_class (grown m f e) j.class.name) nothing ≡ option_map_or (expanded m l) (instance_class m j.class.name) nothing
+          alike : (j : Instance) → Contains (instances (cluster_class c)) j
+              → option_map_or (expanded (grown m f e) l) (instance_class (grown m f e) j.class.name) nothing ≡ option_map_or (expanded m l) (instance_class m j.class.name) nothing
           alike j has =
               let its = has_class f e i m gains sound reached fresh systems_fit b (cluster_class c) at j has in
               ap (λ (o : Option ℕ). option_map_or (expanded (grown m f e) l) o nothing) its.is
@@ -96,7 +102,8 @@ module _ (f : SystemDecl → SystemDecl) (e : ProcessClassTree) (i : Instance) (
               ∙ sym (ap (λ (o : Option ℕ). option_map_or (expanded m l) o nothing) its.was)
       by (system s) at sort rest = absurd (false≢true sort)
 
-  new_counted : (l : ℕ) → option_map_or (expanded (grown m f e) (suc l)) (instance_class (grown m f e) i.class.name) nothing ≡ record { processes = 1; clusters = 0; channels = 0 }
+  new_counted : (l : ℕ)
+      → option_map_or (expanded (grown m f e) (suc l)) (instance_class (grown m f e) i.class.name) nothing ≡ record { processes = 1; clusters = 0; channels = 0 }
   new_counted l =
       ap (λ (o : Option ℕ). option_map_or (expanded (grown m f e) (suc l)) o nothing) (class_of_new f e i m gains sound reached fresh)
       ∙ ap (λ (o : Option DeclTree). option_map_or (one_of (grown m f e) (expanded (grown m f e) l)) o nothing) (declaration_new f e m)
@@ -109,7 +116,8 @@ module _ (f : SystemDecl → SystemDecl) (e : ProcessClassTree) (i : Instance) (
         at : (c : ℕ) × (declaration m c ≡ Some (system s))
         at = system_declared m s there
 
-        alike : (j : Instance) → Contains (instances (system s)) j → option_map_or (expanded (grown m f e) (suc (length m.decls))) (instance_class (grown m f e) j.class.name) nothing ≡ option_map_or (expanded m (length m.decls)) (instance_class m j.class.name) nothing
+        alike : (j : Instance) → Contains (instances (system s)) j
+            → option_map_or (expanded (grown m f e) (suc (length m.decls))) (instance_class (grown m f e) j.class.name) nothing ≡ option_map_or (expanded m (length m.decls)) (instance_class m j.class.name) nothing
         alike j has =
             let its = has_class f e i m gains sound reached fresh systems_fit at.0 (system s) at.1 j has in
             let part = part_of m j.class.name its.number its.was in
@@ -131,20 +139,29 @@ module _ (f : SystemDecl → SystemDecl) (e : ProcessClassTree) (i : Instance) (
 
     grown_by_one : IsOneMore
     grown_by_one =
-        let added = one_more f e (grown m f e) (expanded (grown m f e) (suc (length m.decls))) (instances (system s)) i (record { processes = 1; clusters = 0; channels = 0 }) (new_counted (length m.decls)) in
-        let all : all_now ≡ all_of (grown m f e) (expanded (grown m f e) (suc (length m.decls))) (instances (system s) ++ i ∷ []) = ap (all_of (grown m f e) (expanded (grown m f e) (suc (length m.decls)))) (gains.instances s) in
-        let p : all_now.processes ≡ (all_of (grown m f e) (expanded (grown m f e) (suc (length m.decls))) (instances (system s))).processes + 1 = ap (λ (t : Totals). t.processes) all ∙ added.processes in
-        let k : all_now.clusters ≡ (all_of (grown m f e) (expanded (grown m f e) (suc (length m.decls))) (instances (system s))).clusters + 0 = ap (λ (t : Totals). t.clusters) all ∙ added.clusters in
-        let h : all_now.channels ≡ (all_of (grown m f e) (expanded (grown m f e) (suc (length m.decls))) (instances (system s))).channels + 0 = ap (λ (t : Totals). t.channels) all ∙ added.channels in
-        let bp : (all_of (grown m f e) (expanded (grown m f e) (suc (length m.decls))) (instances (system s))).processes ≡ all_before.processes = ap (λ (t : Totals). t.processes) before in
-        let bk : (all_of (grown m f e) (expanded (grown m f e) (suc (length m.decls))) (instances (system s))).clusters ≡ all_before.clusters = ap (λ (t : Totals). t.clusters) before in
-        let bh : (all_of (grown m f e) (expanded (grown m f e) (suc (length m.decls))) (instances (system s))).channels ≡ all_before.channels = ap (λ (t : Totals). t.channels) before in
+        let added =
+        one_more f e (grown m f e) (expanded (grown m f e) (suc (length m.decls))) (instances (system s)) i (record { processes = 1; clusters = 0; channels = 0 }) (new_counted (length m.decls)) in
+        let all : all_now ≡ all_of (grown m f e) (expanded (grown m f e) (suc (length m.decls))) (instances (system s) ++ i ∷ []) =
+        ap (all_of (grown m f e) (expanded (grown m f e) (suc (length m.decls)))) (gains.instances s) in
+        let p : all_now.processes ≡ (all_of (grown m f e) (expanded (grown m f e) (suc (length m.decls))) (instances (system s))).processes + 1 =
+        ap (λ (t : Totals). t.processes) all ∙ added.processes in
+        let k : all_now.clusters ≡ (all_of (grown m f e) (expanded (grown m f e) (suc (length m.decls))) (instances (system s))).clusters + 0 =
+        ap (λ (t : Totals). t.clusters) all ∙ added.clusters in
+        let h : all_now.channels ≡ (all_of (grown m f e) (expanded (grown m f e) (suc (length m.decls))) (instances (system s))).channels + 0 =
+        ap (λ (t : Totals). t.channels) all ∙ added.channels in
+        let bp : (all_of (grown m f e) (expanded (grown m f e) (suc (length m.decls))) (instances (system s))).processes ≡ all_before.processes =
+        ap (λ (t : Totals). t.processes) before in
+        let bk : (all_of (grown m f e) (expanded (grown m f e) (suc (length m.decls))) (instances (system s))).clusters ≡ all_before.clusters =
+        ap (λ (t : Totals). t.clusters) before in
+        let bh : (all_of (grown m f e) (expanded (grown m f e) (suc (length m.decls))) (instances (system s))).channels ≡ all_before.channels =
+        ap (λ (t : Totals). t.channels) before in
         record { processes = omega (arith, p, bp); clusters = omega (arith, k, bk); channels = omega (arith, h, bh) }
 
     channels_now : length (channels (system (f s))) ≡ length (channels (system s)) + length more
     channels_now = ap length (joins s) ∙ length-append (channels (system s)) more
 
-    small : (system_size m s).processes < 10000 → (system_size m s).channels + length more ≤ 1000000 → is_too_large (system_size (grown m f e) (f s)) ≡ false
+    small : (system_size m s).processes < 10000 → (system_size m s).channels + length more ≤ 1000000
+        → is_too_large (system_size (grown m f e) (f s)) ≡ false
     small few narrow = ap (λ (n : ℕ). is_too_large (one_of (grown m f e) (expanded (grown m f e) n) (system (f s)))) (decls_counted f e m) ∙ its
       where
         its : is_too_large (one_of (grown m f e) (expanded (grown m f e) (suc (length m.decls))) (system (f s))) ≡ false
@@ -164,12 +181,14 @@ module _ (f : SystemDecl → SystemDecl) (e : ProcessClassTree) (i : Instance) (
   only : systems (grown m f e) ≡ f fits.one_system.the_system ∷ []
   only = systems_grown f e m ∙ ap (map f) fits.one_system.only
 
-  pub not_too_large : ((s : SystemDecl) → Contains (systems m) s → ((system_size m s).processes < 10000) × ((system_size m s).channels + length more ≤ 1000000)) → (v : Violation) → BreaksC19 (grown m f e) v → ⊥
+  pub not_too_large : ((s : SystemDecl) → Contains (systems m) s → ((system_size m s).processes < 10000) × ((system_size m s).channels + length more ≤ 1000000))
+      → (v : Violation) → BreaksC19 (grown m f e) v → ⊥
   not_too_large room _ (too_large d sized has large) =
       let s = fits.one_system.the_system in
       let there : Contains (systems m) s = subst (λ (xs : List SystemDecl). Contains xs s) (sym fits.one_system.only) (first_in s []) in
       let limits = room s there in
-      let same : f s ≡ d = ⊎_elim (λ is. is) (λ none. absurd (none_in d none)) (in_cases (f s) [] d (subst (λ (xs : List SystemDecl). Contains xs d) only has)) in
+      let same : f s ≡ d =
+      ⊎_elim (λ is. is) (λ none. absurd (none_in d none)) (in_cases (f s) [] d (subst (λ (xs : List SystemDecl). Contains xs d) only has)) in
       both_ways (is_too_large (system_size (grown m f e) d))
       (ap (λ (x : SystemDecl). is_too_large (system_size (grown m f e) x)) (sym same) ∙ small s there limits.0 limits.1) large
 

@@ -52,7 +52,8 @@ pub entry_in : (n : ℕ) (es : List Entry) (x : Line) → Contains (lines_from n
 entry_in n [] x has = absurd (none_in x has)
 entry_in n (e ∷ es) x has = by (in_cases (record { number = n; entry = e }) (lines_from (suc n) es) x has) (entry_in (suc n) es x)
   where
-    by : ((record { number = n; entry = e }) ≡ x) ⊎ Contains (lines_from (suc n) es) x → (Contains (lines_from (suc n) es) x → Contains es x.entry) → Contains (e ∷ es) x.entry
+    by : ((record { number = n; entry = e }) ≡ x) ⊎ Contains (lines_from (suc n) es) x
+        → (Contains (lines_from (suc n) es) x → Contains es x.entry) → Contains (e ∷ es) x.entry
     by (inl same) rest = subst (λ (y : Line). Contains (e ∷ es) y.entry) same (first_in e es)
     by (inr later) rest = later_in e es x.entry (rest later)
 
@@ -61,7 +62,8 @@ module _ (m : ModelTree) where
   none_bad n [] is e has = absurd (none_in e has)
   none_bad n (x ∷ es) is e has = by_test (is_bad m x) refl is (λ later. none_bad (suc n) es later e)
     where
-      by_test : (b : Bool) → is_bad m x ≡ b → (if b then Some n else first_bad m (suc n) es) ≡ None → (first_bad m (suc n) es ≡ None → Contains es e → is_bad m e ≡ false) → is_bad m e ≡ false
+      by_test : (b : Bool) → is_bad m x ≡ b → (if b then Some n else first_bad m (suc n) es) ≡ None
+          → (first_bad m (suc n) es ≡ None → Contains es e → is_bad m e ≡ false) → is_bad m e ≡ false
       by_test true bad h rest = absurd (none_some n (sym h))
       by_test false good h rest = by (in_cases x es e has)
         where
@@ -82,8 +84,10 @@ module _ (m : ModelTree) where
   unrefused computed script never = record {
     unknown = no_class (class m class_name) room.0;
     unnamed = λ j has. any_none (λ x. bytes_eq x.name.name instance_name) (instances_at m []) (rest room.1).0 j has;
-    processes = λ s has. not_le full_processes (system_size m s).processes (any_none (λ t. nat_le full_processes (system_size m t).processes) (systems m) (last (rest room.1).1).0 s has);
-    channels = λ s has. not_lt most_channels (system_size m s).channels (any_none (λ t. nat_lt most_channels (system_size m t).channels) (systems m) (last (rest room.1).1).1 s has);
+    processes =
+        λ s has. not_le full_processes (system_size m s).processes (any_none (λ t. nat_le full_processes (system_size m t).processes) (systems m) (last (rest room.1).1).0 s has);
+    channels =
+        λ s has. not_lt most_channels (system_size m s).channels (any_none (λ t. nat_lt most_channels (system_size m t).channels) (systems m) (last (rest room.1).1).1 s has);
     ports = λ x has. not_not (is_port m x.entry) (good x has).0;
     untaken = λ x has. (good x has).1;
   }
@@ -92,7 +96,8 @@ module _ (m : ModelTree) where
       none None is = refl
       none (Some line) is = absurd (never line ((computed m script line).1 is))
 
-      by_room : (b : Bool) → is_full m ≡ b → (if b then Some 1 else first_bad m 1 script) ≡ None → (is_full m ≡ false) × (first_bad m 1 script ≡ None)
+      by_room : (b : Bool) → is_full m ≡ b → (if b then Some 1 else first_bad m 1 script) ≡ None
+          → (is_full m ≡ false) × (first_bad m 1 script ≡ None)
       by_room true full h = absurd (none_some 1 (sym h))
       by_room false full h = (full, h)
 
@@ -119,17 +124,22 @@ module _ (m : ModelTree) where
 
 system_in : (ds : List DeclTree) (k : ℕ) (s : SystemDecl) → slice_get ds k ≡ Some (system s) → Contains (flat_map system_of ds) s
 system_in [] k s is = absurd (none_some (system s) is)
-system_in (d ∷ ds) zero s is = subst (λ (x : DeclTree). Contains (flat_map system_of (x ∷ ds)) s) (sym (some_same d (system s) is)) (first_in s (flat_map system_of ds))
+system_in (d ∷ ds) zero s is =
+    subst (λ (x : DeclTree). Contains (flat_map system_of (x ∷ ds)) s) (sym (some_same d (system s) is)) (first_in s (flat_map system_of ds))
 system_in (data_class c ∷ ds) (suc k) s is = system_in ds k s is
 system_in (process_class c ∷ ds) (suc k) s is = system_in ds k s is
 system_in (cluster_class c ∷ ds) (suc k) s is = system_in ds k s is
 system_in (system t ∷ ds) (suc k) s is = later_in t (flat_map system_of ds) s (system_in ds k s is)
 
-first_at : (n : ℕ) (ds : List DeclTree) (s : SystemDecl) (rest : List SystemDecl) → flat_map system_of ds ≡ s ∷ rest → (k : ℕ) × (first_system n ds ≡ n + k) × (slice_get ds k ≡ Some (system s))
+first_at : (n : ℕ) (ds : List DeclTree) (s : SystemDecl) (rest : List SystemDecl) → flat_map system_of ds ≡ s ∷ rest
+    → (k : ℕ) × (first_system n ds ≡ n + k) × (slice_get ds k ≡ Some (system s))
 first_at n [] s rest is = cc
-first_at n (data_class d ∷ ds) s rest is = let r = first_at (suc n) ds s rest is in let number : first_system (suc n) ds ≡ suc n + r.0 = r.1 in (suc r.0, omega (arith, number), r.2)
-first_at n (process_class d ∷ ds) s rest is = let r = first_at (suc n) ds s rest is in let number : first_system (suc n) ds ≡ suc n + r.0 = r.1 in (suc r.0, omega (arith, number), r.2)
-first_at n (cluster_class d ∷ ds) s rest is = let r = first_at (suc n) ds s rest is in let number : first_system (suc n) ds ≡ suc n + r.0 = r.1 in (suc r.0, omega (arith, number), r.2)
+first_at n (data_class d ∷ ds) s rest is =
+    let r = first_at (suc n) ds s rest is in let number : first_system (suc n) ds ≡ suc n + r.0 = r.1 in (suc r.0, omega (arith, number), r.2)
+first_at n (process_class d ∷ ds) s rest is =
+    let r = first_at (suc n) ds s rest is in let number : first_system (suc n) ds ≡ suc n + r.0 = r.1 in (suc r.0, omega (arith, number), r.2)
+first_at n (cluster_class d ∷ ds) s rest is =
+    let r = first_at (suc n) ds s rest is in let number : first_system (suc n) ds ≡ suc n + r.0 = r.1 in (suc r.0, omega (arith, number), r.2)
 first_at n (system t ∷ ds) s rest is = let same : t ≡ s = cc in (0, omega arith, ap (λ (x : SystemDecl). Some (system x)) same)
 
 module _ (m : ModelTree) (fits : SystemFits m) where
@@ -138,7 +148,8 @@ module _ (m : ModelTree) (fits : SystemFits m) where
   system_there (suc k) s is = system_in m.decls k s is
 
   only_system : (c : ℕ) (s : SystemDecl) → declaration m c ≡ Some (system s) → fits.one_system.the_system ≡ s
-  only_system c s is = by (in_cases fits.one_system.the_system [] s (subst (λ (xs : List SystemDecl). Contains xs s) fits.one_system.only (system_there c s is)))
+  only_system c s is =
+      by (in_cases fits.one_system.the_system [] s (subst (λ (xs : List SystemDecl). Contains xs s) fits.one_system.only (system_there c s is)))
     where
       by : (fits.one_system.the_system ≡ s) ⊎ Contains [] s → fits.one_system.the_system ≡ s
       by (inl same) = same
@@ -152,7 +163,11 @@ module _ (m : ModelTree) (fits : SystemFits m) where
       ap (declaration m) is ∙ r.2
 
   pub system_instances : (c : ℕ) (s : SystemDecl) → declaration m c ≡ Some (system s) → instances_at m [] ≡ instances (system s)
-  system_instances c s is = ap (λ (o : Option DeclTree). option_map_or instances o []) declared_first ∙ ap (λ (t : SystemDecl). instances (system t)) (only_system c s is)
+  system_instances c s is =
+      ap (λ (o : Option DeclTree). option_map_or instances o []) declared_first
+      ∙ ap (λ (t : SystemDecl). instances (system t)) (only_system c s is)
 
   pub system_channels : (c : ℕ) (s : SystemDecl) → declaration m c ≡ Some (system s) → channels_at m [] ≡ channels (system s)
-  system_channels c s is = ap (λ (o : Option DeclTree). option_map_or channels o []) declared_first ∙ ap (λ (t : SystemDecl). channels (system t)) (only_system c s is)
+  system_channels c s is =
+      ap (λ (o : Option DeclTree). option_map_or channels o []) declared_first
+      ∙ ap (λ (t : SystemDecl). channels (system t)) (only_system c s is)

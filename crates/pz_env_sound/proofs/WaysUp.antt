@@ -25,11 +25,13 @@ module _ (up : ℕ → Option ℕ) where
   is_reached zero c k here = absurd (none_in k here)
   is_reached (suc n) c k here = by_place (in_cases c (option_map_or (followed up n) (up c) []) k here) (is_reached n)
     where
-      by_parent : (o : Option ℕ) → up c ≡ o → Contains (option_map_or (followed up n) o []) k → ((p j : ℕ) → Contains (followed up n p) j → Reaches up p j) → Reaches up c k
+      by_parent : (o : Option ℕ) → up c ≡ o → Contains (option_map_or (followed up n) o []) k
+          → ((p j : ℕ) → Contains (followed up n p) j → Reaches up p j) → Reaches up c k
       by_parent None is at from = absurd (none_in k at)
       by_parent (Some p) is at from = further c p k is (from p k at)
 
-      by_place : (c ≡ k) ⊎ Contains (option_map_or (followed up n) (up c) []) k → ((p j : ℕ) → Contains (followed up n p) j → Reaches up p j) → Reaches up c k
+      by_place : (c ≡ k) ⊎ Contains (option_map_or (followed up n) (up c) []) k
+          → ((p j : ℕ) → Contains (followed up n p) j → Reaches up p j) → Reaches up c k
       by_place (inl same) from = subst (λ (x : ℕ). Reaches up c x) same (itself c)
       by_place (inr later) from = by_parent (up c) refl later from
 
@@ -46,7 +48,8 @@ module _ (up : ℕ → Option ℕ) where
       by_parent (Some p) = refl
   one_more (suc n) c = by_parent (up c) refl (one_more n)
     where
-      by_parent : (o : Option ℕ) → up c ≡ o → ((p : ℕ) → (followed up (suc n) p ≡ followed up n p) ⊎ More n p) → (followed up (suc (suc n)) c ≡ followed up (suc n) c) ⊎ More (suc n) c
+      by_parent : (o : Option ℕ) → up c ≡ o → ((p : ℕ) → (followed up (suc n) p ≡ followed up n p) ⊎ More n p)
+          → (followed up (suc (suc n)) c ≡ followed up (suc n) c) ⊎ More (suc n) c
       by_parent None is rest = inl (rw is refl)
       by_parent (Some p) is rest = on (rest p)
         where
@@ -64,13 +67,17 @@ module _ (up : ℕ → Option ℕ) where
   no_two c k l is none = let wrong : c ∷ [] ≡ c ∷ k ∷ [] = rw none at is in cc
 
   -- each class on the way has a parent, from which one comes to the last
-  leads_on : (n c y k : ℕ) → Contains (followed up n c) y → followed up (suc n) c ≡ followed up n c ++ k ∷ [] → (p : ℕ) × (up y ≡ Some p) × Reaches up p k
+  leads_on : (n c y k : ℕ) → Contains (followed up n c) y → followed up (suc n) c ≡ followed up n c ++ k ∷ []
+      → (p : ℕ) × (up y ≡ Some p) × Reaches up p k
   leads_on zero c y k here is = absurd (none_in y here)
   leads_on (suc n) c y k here is = by_parent (up c) refl (leads_on n)
     where
-      by_parent : (o : Option ℕ) → up c ≡ o → ((q z l : ℕ) → Contains (followed up n q) z → followed up (suc n) q ≡ followed up n q ++ l ∷ [] → (p : ℕ) × (up z ≡ Some p) × Reaches up p l) → (p : ℕ) × (up y ≡ Some p) × Reaches up p k
+      by_parent : (o : Option ℕ) → up c ≡ o
+          → ((q z l : ℕ) → Contains (followed up n q) z → followed up (suc n) q ≡ followed up n q ++ l ∷ [] → (p : ℕ) × (up z ≡ Some p) × Reaches up p l)
+          → (p : ℕ) × (up y ≡ Some p) × Reaches up p k
       by_parent None none rest = let wrong : c ∷ [] ≡ c ∷ k ∷ [] = rw none at is in cc
-      by_parent (Some q) above rest = by_place (in_cases c (followed up n q) y (subst (λ (o : Option ℕ). Contains (c ∷ option_map_or (followed up n) o []) y) above here))
+      by_parent (Some q) above rest =
+          by_place (in_cases c (followed up n q) y (subst (λ (o : Option ℕ). Contains (c ∷ option_map_or (followed up n) o []) y) above here))
         where
           tail : followed up (suc n) q ≡ followed up n q ++ k ∷ []
           tail = let both : c ∷ followed up (suc n) q ≡ c ∷ (followed up n q ++ k ∷ []) = rw above at is in cc
@@ -87,4 +94,5 @@ module _ (up : ℕ → Option ℕ) where
   round n c more here = let r = leads_on n c more.last more.last here more.is in record { above = r.0; is_above = r.1; back = r.2 }
 
   pub last_reached : (n c : ℕ) (more : More n c) → Reaches up c more.last
-  last_reached n c more = is_reached (suc n) c more.last (subst (λ (l : List ℕ). Contains l more.last) (sym more.is) (Contains-append_right (followed up n c) (more.last ∷ []) more.last (first_in more.last [])))
+  last_reached n c more =
+      is_reached (suc n) c more.last (subst (λ (l : List ℕ). Contains l more.last) (sym more.is) (Contains-append_right (followed up n c) (more.last ∷ []) more.last (first_in more.last [])))

@@ -32,7 +32,8 @@ use Rattle.pz_env_sound.proofs.NewParts.{IsFresh, Gains}
 use Rattle.pz_env_sound.proofs.KeptWords.{broken, NoneHolds, words_kept}
 
 -- what a sound model says of its words
-pub sound_words : (m : ModelTree) → IsSound m → (c : ℕ) (d : DeclTree) (p : LocalScope) (x : Mention) → Mentions m c d p x → NoneHolds (broken m c d p.locals x)
+pub sound_words : (m : ModelTree) → IsSound m → (c : ℕ) (d : DeclTree) (p : LocalScope) (x : Mention) → Mentions m c d p x
+    → NoneHolds (broken m c d p.locals x)
 sound_words m sound c d p x there = (
   holds (breaks_c5 m x) 5 (λ h. c5 c d p x there h),
   (
@@ -72,7 +73,9 @@ sound_words m sound c d p x there = (
     holds b n wrong = false_from_ne_true b (λ is. sound.rules (violation n (place x)) (a_word (violation n (place x)) (wrong is)))
 
 -- a model whose words break no rule
-pub no_broken_word : (m : ModelTree) → ((c : ℕ) (d : DeclTree) (p : LocalScope) (x : Mention) → Mentions m c d p x → NoneHolds (broken m c d p.locals x)) → (v : Violation) → BreaksWord m v → ⊥
+pub no_broken_word : (m : ModelTree)
+    → ((c : ℕ) (d : DeclTree) (p : LocalScope) (x : Mention) → Mentions m c d p x → NoneHolds (broken m c d p.locals x)) → (v : Violation)
+    → BreaksWord m v → ⊥
 no_broken_word m stands v (c5 c d p x there breaks) = both_ways (breaks_c5 m x) (stands c d p x there).0 breaks
 no_broken_word m stands v (c6 c d p x there breaks) = both_ways (breaks_c6 m c d p.locals x) (stands c d p x there).1.0 breaks
 no_broken_word m stands v (c7 c d p x there breaks) = both_ways (breaks_c7 m c x) (stands c d p x there).1.1.0 breaks
@@ -86,7 +89,8 @@ no_broken_word m stands v (c18 c d p x there breaks) = both_ways (breaks_c18 x) 
 no_broken_word m stands v (c21 c d p x there breaks) = both_ways (breaks_c21 d x) (stands c d p x there).1.1.1.1.1.1.1.1.1.1.0 breaks
 no_broken_word m stands v (c22 c d p x there breaks) = both_ways (breaks_c22 d x) (stands c d p x there).1.1.1.1.1.1.1.1.1.1.1.0 breaks
 
-module _ (f : SystemDecl → SystemDecl) (e : ProcessClassTree) (i : Instance) (m : ModelTree) (sound : IsSound m) (reached : AncestorsAreReached) (fresh : IsFresh m e) (gains : Gains f e i) where
+module _ (f : SystemDecl → SystemDecl) (e : ProcessClassTree) (i : Instance) (m : ModelTree) (sound : IsSound m)
+    (reached : AncestorsAreReached) (fresh : IsFresh m e) (gains : Gains f e i) where
   -- a process class is declared by the name of the new class
   pub new_is_process : is_declared_as is_process (grown m f e) e.name.name ≡ true
   new_is_process =
@@ -111,14 +115,17 @@ module _ (f : SystemDecl → SystemDecl) (e : ProcessClassTree) (i : Instance) (
   mentioned_new : mentioned_instance i ≡ Instantiated i.class ∷ []
   mentioned_new = ap (λ (o : Option (List Given)). Instantiated i.class ∷ mentioned_givens (unwrap_or o [])) gains.given
 
-  mentioned_all : (s : SystemDecl) → mentioned_instances (unwrap_or (f s).instances []) ≡ mentioned_instances (unwrap_or s.instances []) ++ Instantiated i.class ∷ []
+  mentioned_all : (s : SystemDecl)
+      → mentioned_instances (unwrap_or (f s).instances []) ≡ mentioned_instances (unwrap_or s.instances []) ++ Instantiated i.class ∷ []
   mentioned_all s =
       ap mentioned_instances (gains.instances s)
       ∙ flat_map-append mentioned_instance (unwrap_or s.instances []) (i ∷ [])
       ∙ ap (λ (xs : List Mention). mentioned_instances (unwrap_or s.instances []) ++ xs) (append-nil (mentioned_instance i) ∙ mentioned_new)
 
-  module _ (new_words : (p : LocalScope) (x : Mention) → Contains (parts (process_class e)) p → Contains p.mentions x → NoneHolds (broken (grown m f e) (suc (length m.decls)) (process_class e) p.locals x)) where
-    in_part : (c : ℕ) (was : DeclTree) → declaration m c ≡ Some was → (p : LocalScope) (x : Mention) → Contains (parts (grown_decl f was)) p → Contains p.mentions x → NoneHolds (broken (grown m f e) c (grown_decl f was) p.locals x)
+  module _
+      (new_words : (p : LocalScope) (x : Mention) → Contains (parts (process_class e)) p → Contains p.mentions x → NoneHolds (broken (grown m f e) (suc (length m.decls)) (process_class e) p.locals x)) where
+    in_part : (c : ℕ) (was : DeclTree) → declaration m c ≡ Some was → (p : LocalScope) (x : Mention) → Contains (parts (grown_decl f was)) p
+        → Contains p.mentions x → NoneHolds (broken (grown m f e) c (grown_decl f was) p.locals x)
     in_part c (data_class d) there p x has at =
         words_kept f e m sound reached c (declared_other f e m c (data_class d) there) (data_class d) p.locals x (sound_words m sound c (data_class d) p x (record { declared = there; part_of = has; mentioned = at }))
     in_part c (process_class d) there p x has at =
@@ -127,7 +134,9 @@ module _ (f : SystemDecl → SystemDecl) (e : ProcessClassTree) (i : Instance) (
         words_kept f e m sound reached c (declared_other f e m c (cluster_class d) there) (cluster_class d) p.locals x (sound_words m sound c (cluster_class d) p x (record { declared = there; part_of = has; mentioned = at }))
     in_part c (system s) there p x has at = by_part (in_cases (system_part (f s)) [] p has)
       where
-        by_word : (q : LocalScope) → q ≡ system_part (f s) → Contains (mentioned_instances (unwrap_or s.instances [])) x ⊎ Contains (Instantiated i.class ∷ []) x → NoneHolds (broken (grown m f e) c (system (f s)) [] x)
+        by_word : (q : LocalScope) → q ≡ system_part (f s)
+            → Contains (mentioned_instances (unwrap_or s.instances [])) x ⊎ Contains (Instantiated i.class ∷ []) x
+            → NoneHolds (broken (grown m f e) c (system (f s)) [] x)
         by_word q is (inl was) =
             words_kept f e m sound reached c (declared_other f e m c (system s) there) (system s) [] x (sound_words m sound c (system s) (system_part s) x (record { declared = there; part_of = (0, omega arith, refl); mentioned = was }))
         by_word q is (inr added) = by_new (in_cases (Instantiated i.class) [] x added)
@@ -144,7 +153,8 @@ module _ (f : SystemDecl → SystemDecl) (e : ProcessClassTree) (i : Instance) (
             (subst (λ (xs : List Mention). Contains xs x) (ap (λ (q : LocalScope). q.mentions) (sym same) ∙ mentioned_all s) at)))
         by_part (inr none) = absurd (none_in p none)
 
-    word_stands : (c : ℕ) (d : DeclTree) (p : LocalScope) (x : Mention) → Mentions (grown m f e) c d p x → NoneHolds (broken (grown m f e) c d p.locals x)
+    word_stands : (c : ℕ) (d : DeclTree) (p : LocalScope) (x : Mention) → Mentions (grown m f e) c d p x
+        → NoneHolds (broken (grown m f e) c d p.locals x)
     word_stands c d p x there = by (declared f e m c d there.declared)
       where
         by : IsDeclared f e m c d → NoneHolds (broken (grown m f e) c d p.locals x)
