@@ -1,31 +1,32 @@
-pub mod Numbers
-pub mod Grown
-pub mod WaysUp
-pub mod Ancestors
-pub mod Members
-pub mod NewParts
-pub mod ClassRules
-pub mod KeptWords
-pub mod Words
-pub mod RepeatsInParts
-pub mod RepeatedNames
-pub mod Instances
-pub mod Channels
-pub mod Depth
-pub mod SystemSize
-pub mod MethodNumbers
-pub mod Openings
-pub mod GrownSound
-pub mod Distinct
-pub mod Ports
-pub mod EnvironmentNames
-pub mod EnvironmentMentions
-pub mod EnvironmentWords
-pub mod Unrefused
-pub mod NewEnds
-pub mod EndsFit
-pub mod EndsFree
-pub mod ClosedSound
-pub mod Limits
-pub mod Marks
-pub mod FewMarks
+mod Numbers
+mod Grown
+mod WaysUp
+mod Ancestors
+mod Members
+mod NewParts
+mod ClassRules
+mod KeptWords
+mod Words
+mod RepeatsInParts
+mod RepeatedNames
+mod Instances
+mod Channels
+mod Depth
+mod SystemSize
+mod MethodNumbers
+mod Openings
+mod GrownSound
+mod Distinct
+mod Ports
+mod EnvironmentNames
+mod EnvironmentMentions
+mod EnvironmentWords
+mod Unrefused
+mod NewEnds
+mod EndsFit
+mod EndsFree
+mod ClosedSound
+mod Limits
+mod Marks
+mod FewMarks
+mod Rows

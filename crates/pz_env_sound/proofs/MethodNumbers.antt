@@ -63,7 +63,8 @@ module _ (m : ModelTree) where
       at : (c : ℕ) (d : DeclTree) → declaration m c ≡ Some d → methods_before m c + many d ≤ sum_by many m.decls
       at zero d there = absurd (none_some d there)
       at (suc i) d there =
-          let number : suc i - 1 ≡ i = omega arith in subst (λ (j : ℕ). sum_by many (take j m.decls) + many d ≤ sum_by many m.decls) (sym number) (before_all m.decls i d there)
+          let number : suc i - 1 ≡ i =
+          omega arith in subst (λ (j : ℕ). sum_by many (take j m.decls) + many d ≤ sum_by many m.decls) (sym number) (before_all m.decls i d there)
 
       by : (c : ℕ) (o : Option DeclTree) → declaration m c ≡ o
           → first_with (methods_before m c) s (option_map_or signatures (declaration m c) []) ≡ Some k → k < length (methods m)
