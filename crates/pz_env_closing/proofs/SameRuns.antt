@@ -11,27 +11,25 @@ use Rattle.pz_run_playing.specs.RunText.{text_under}
 use Rattle.pz_run_playing.specs.Playing.{ChosenRun}
 use Rattle.pz_run_playing.specs.Laws.{HasOneRun}
 use Rattle.pz_env_script.specs.declared.entry.Entry.{Entry}
+use Rattle.pz_env_script.specs.Scripts.{IsWritten}
 use Rattle.pz_env_rules.specs.Joining.{driving}
 use Rattle.pz_env_rules.specs.Text.{drive_header}
 use Rattle.pz_env_tree.specs.ClosedTree.{closed_tree}
-use Rattle.pz_env_sound.specs.Closing.{MayClose}
-use Rattle.pz_env_mimics.specs.Closing.{MayDrive, Closes}
+use Rattle.pz_env_sound.specs.MayClose.{MayClose}
+use Rattle.pz_env_mimics.specs.Closing.{MayDrive}
 use Rattle.pz_env_mimics.specs.Laws as mimics
+use Rattle.pz_env_joined.specs.Laws.{ClosedTreeCloses}
 use Rattle.pz_env_closing.specs.DrivenRuns.{ChosenDrivenRun, driven_text}
 use Rattle.pz_env_closing.specs.Laws.{closed_setting, IsSameRun, ClosedRunsAreDriven, DrivenRunsAreClosed, OneDrivenEnding}
 use Rattle.pz_env_closing.proofs.Texts.{same_text}
 use Rattle.pz_env_closing.proofs.Chosen.{Whole, whole_of}
 
--- the closed tree closes the system
-abbrev pub ClosedTreesClose : Type 0
-ClosedTreesClose = (m : ModelTree) (script : List Entry) (limits : Limits) → MayClose m script → MayDrive limits → Closes (driving m script limits) (closed_tree m script)
-
-module _ (closes : ClosedTreesClose) (each_line : mimics.EventLinesAreSame) (end_line : mimics.EndLinesAreSame) where
+module _ (closes : ClosedTreeCloses) (each_line : mimics.EventLinesAreSame) (end_line : mimics.EndLinesAreSame) where
   pub closed_are_driven : mimics.ChosenClosedAreDriven → ClosedRunsAreDriven
-  closed_are_driven chosen m script limits policy may drive run =
+  closed_are_driven chosen m script limits policy may written drive run =
       let g = driving m script limits in
       let n = closed_tree m script in
-      let is = closes m script limits may drive in
+      let is = closes m script limits may.sound may.opens written may.unrefused drive in
       let x = chosen g n policy run.start run.end run.events run.ending is run.is_start run.is_chosen in (
         record { start = x.start; is_start = x.is_start; events = x.events; end = x.end; ending = run.ending; is_chosen = x.run },
         record { ending = refl; text = same_text each_line end_line g n is.environment x.events run.events x.end.system.clock run.end.clock run.ending x.same x.clock },
@@ -46,12 +44,12 @@ module _ (closes : ClosedTreesClose) (each_line : mimics.EventLinesAreSame) (end
         ∙ ap (λ (c : Config). text_under (drive_header limits.units) (closed_tree m script) events c.clock other) (sym ends_are)
         ∙ ap (λ (e : Ending). text_under (drive_header limits.units) (closed_tree m script) events last.clock e) (sym are_ending)
 
-    pub driven_is_closed : mimics.ChosenDrivenAreClosed → MayClose m script → MayDrive limits → (driven : ChosenDrivenRun (driving m script limits) policy)
+    pub driven_is_closed : mimics.ChosenDrivenAreClosed → MayClose m script → IsWritten script → MayDrive limits → (driven : ChosenDrivenRun (driving m script limits) policy)
         → (run : ChosenRun (closed_setting m script limits) policy) × IsSameRun m script limits policy driven run
-    driven_is_closed chosen may drive driven =
+    driven_is_closed chosen may written drive driven =
         let g = driving m script limits in
         let n = closed_tree m script in
-        let is = closes m script limits may drive in
+        let is = closes m script limits may.sound may.opens written may.unrefused drive in
         let x = chosen g n policy driven.start driven.end driven.events driven.ending is driven.is_start driven.is_chosen in
         let w = whole_of (closed_setting m script limits) policy x.start x.is_start x.told x.last are driven.ending x.run in (
           w.run,
@@ -64,7 +62,7 @@ module _ (closes : ClosedTreesClose) (each_line : mimics.EventLinesAreSame) (end
 
 -- a policy chooses one run of the closed model, which is sound
 pub end_once : DrivenRunsAreClosed → HasOneRun → ((m : ModelTree) (script : List Entry) → MayClose m script → IsSound (closed_tree m script)) → OneDrivenEnding
-end_once closed one sound m script limits policy may drive x y =
-    let a = closed m script limits policy may drive x in
-    let b = closed m script limits policy may drive y in
+end_once closed one sound m script limits policy may written drive x y =
+    let a = closed m script limits policy may written drive x in
+    let b = closed m script limits policy may written drive y in
     a.1.ending ∙ (one (closed_setting m script limits) policy (sound m script may) a.0 b.0).2 ∙ sym b.1.ending

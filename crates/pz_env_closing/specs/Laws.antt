@@ -8,10 +8,11 @@ use Rattle.pz_rules.specs.ChosenRuns.{Policy}
 use Rattle.pz_run_playing.specs.RunText.{text_under}
 use Rattle.pz_run_playing.specs.Playing.{ChosenRun}
 use Rattle.pz_env_script.specs.declared.entry.Entry.{Entry}
+use Rattle.pz_env_script.specs.Scripts.{IsWritten}
 use Rattle.pz_env_rules.specs.Joining.{driving}
 use Rattle.pz_env_rules.specs.Text.{drive_header}
 use Rattle.pz_env_tree.specs.ClosedTree.{closed_tree}
-use Rattle.pz_env_sound.specs.Closing.{MayClose}
+use Rattle.pz_env_sound.specs.MayClose.{MayClose}
 use Rattle.pz_env_mimics.specs.Closing.{MayDrive}
 use Rattle.pz_env_closing.specs.DrivenRuns.{ChosenDrivenRun, driven_text}
 
@@ -25,16 +26,16 @@ module _ (m : ModelTree) (script : List Entry) (limits : Limits) (policy : Polic
     pub text : driven_text (driving m script limits) driven.events driven.end.system.clock driven.ending ≡ text_under (drive_header limits.units) (closed_tree m script) run.events run.end.clock run.ending
 
 abbrev pub ClosedRunsAreDriven : Type 0
-ClosedRunsAreDriven = (m : ModelTree) (script : List Entry) (limits : Limits) (policy : Policy) → MayClose m script → MayDrive limits
+ClosedRunsAreDriven = (m : ModelTree) (script : List Entry) (limits : Limits) (policy : Policy) → MayClose m script → IsWritten script → MayDrive limits
     → (run : ChosenRun (closed_setting m script limits) policy)
     → (driven : ChosenDrivenRun (driving m script limits) policy) × IsSameRun m script limits policy driven run
 
 abbrev pub DrivenRunsAreClosed : Type 0
-DrivenRunsAreClosed = (m : ModelTree) (script : List Entry) (limits : Limits) (policy : Policy) → MayClose m script → MayDrive limits
+DrivenRunsAreClosed = (m : ModelTree) (script : List Entry) (limits : Limits) (policy : Policy) → MayClose m script → IsWritten script → MayDrive limits
     → (driven : ChosenDrivenRun (driving m script limits) policy)
     → (run : ChosenRun (closed_setting m script limits) policy) × IsSameRun m script limits policy driven run
 
 -- whichever driven run that is, it ends alike
 abbrev pub OneDrivenEnding : Type 0
-OneDrivenEnding = (m : ModelTree) (script : List Entry) (limits : Limits) (policy : Policy) → MayClose m script → MayDrive limits
+OneDrivenEnding = (m : ModelTree) (script : List Entry) (limits : Limits) (policy : Policy) → MayClose m script → IsWritten script → MayDrive limits
     → (x y : ChosenDrivenRun (driving m script limits) policy) → x.ending ≡ y.ending

@@ -37,6 +37,8 @@ pub fn close_checked(
     ensures opens { IfOk result (λ c. Opens (checked_model c)) }
 {
     pz_env_sound::laws::closed_trees_are_sound();
+    pz_env_sound::laws::closed_trees_open();
+    pz_env_sound::laws::closed_trees_have_few_marks();
     let _entries = script.entries();
     let model = checked.model();
     let classes = classes_of(alloc, model)?;

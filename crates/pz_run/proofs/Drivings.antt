@@ -13,7 +13,7 @@ use Rattle.pz_env_script.specs.Laws.{IsOneScript, IsNeverBoth}
 use Rattle.pz_env_rules.specs.Text.{drive_header}
 use Rattle.pz_env_tree.specs.ClosedTree.{closed_tree}
 use Rattle.pz_env_tree.specs.Refusals.{IsFirstRefused}
-use Rattle.pz_env_sound.specs.Closing.{MayClose}
+use Rattle.pz_env_sound.specs.MayClose.{MayClose}
 use Rattle.pz_env_mimics.specs.Closing.{MayDrive}
 use Rattle.pz_env_closing.specs.DrivenRuns.{driven_text}
 use Rattle.pz_env_closing.specs.Laws.{ClosedRunsAreDriven, OneDrivenEnding}
@@ -69,12 +69,12 @@ pub may_drive : (p : Play) → 1 ≤ p.limits.units → MayDrive (drive_limits p
 may_drive p some = record { edition = refl; units = some; depth = omega arith; height = omega arith }
 
 pub may_close : (m : ModelTree) (file : List ℕ) (script : List Entry) → IsSmallOpen m → IsScriptFor m file script → MayClose m script
-may_close m file script is fits = record { sound = is.sound; opens = is.opens; few = let small = is.small in omega (arith, small); written = (file, fits.is_script); unrefused = fits.fits }
+may_close m file script is fits = record { sound = is.sound; opens = is.opens; few = let small = is.small in omega (arith, small); written = ∣ (file, fits.is_script) ∣₁; unrefused = fits.fits }
 
 module _ (drives_so : ClosedRunsAreDriven) (p : Play) (some : 1 ≤ p.limits.units) (m : ModelTree) (file : List ℕ) (script : List Entry) (model : IsSmallOpen m) (fits : IsScriptFor m file script) where
   driven_print : (bytes : List ℕ) (status : Status) → PrintsClosedRun p (closed_tree m script) bytes status → PrintsDriven p m file bytes status
   driven_print _ _ (plays run) =
-      let x = drives_so m script (drive_limits p) (policy_for p) (may_close m file script model fits) (may_drive p some) run in
+      let x = drives_so m script (drive_limits p) (policy_for p) (may_close m file script model fits) (file, fits.is_script) (may_drive p some) run in
       subst (λ (s : Status). PrintsDriven p m file (text_under (drive_header p.limits.units) (closed_tree m script) run.events run.end.clock run.ending) s) (ap status_of x.1.ending)
       (subst (λ (bytes : List ℕ). PrintsDriven p m file bytes (status_of x.0.ending)) x.1.text (drives script x.0 fits))
 
@@ -97,7 +97,7 @@ module _ (once : OneDrivenEnding) (one : IsOneScript) (never : IsNeverBoth) (p :
   same_end script other run another fits same =
       let moved : (run' : DrivenRunOf p m other) × (run.ending ≡ run'.ending) = subst (λ (s : List Entry). (run' : DrivenRunOf p m s) × (run.ending ≡ run'.ending)) same (run, refl) in
       let fits' : IsScriptFor m file other = subst (IsScriptFor m file) same fits in
-      moved.1 ∙ once m other (drive_limits p) (policy_for p) (may_close m file other model fits') (may_drive p some) moved.0 another
+      moved.1 ∙ once m other (drive_limits p) (policy_for p) (may_close m file other model fits') (file, fits'.is_script) (may_drive p some) moved.0 another
 
   pub of_driven : (bytes : List ℕ) (status : Status) → PrintsDriven p m file bytes status → PrintsScript p m file bytes status
   of_driven _ _ (no_script line wrong) = record {

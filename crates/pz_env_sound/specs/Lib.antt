@@ -1,0 +1,2 @@
+pub mod MayClose
+pub mod Laws
