@@ -1,0 +1,117 @@
+-- Instances have the classes that they had.
+use Rattle.std.proofs.Common.{◌≡◌, refl, sym, ap, ◌∙◌, ℕ, zero, suc, ◌<◌, Bool, true, false, not, ◌&&◌, ◌||◌, List, [], ◌∷◌, ◌++◌, length, Option, Some, None, slice_get, arith}
+use Rattle.std.specs.Prelude.{if◌then◌else◌}
+use Rattle.std.specs.List.{Contains}
+use Rattle.std.specs.Option.{option_map_or, option_and_then, unwrap_or}
+use Rattle.pz_syntax.specs.declared.clusters.Instance.{Instance}
+use Rattle.pz_syntax.specs.Classes.{DeclTree, data_class, process_class, cluster_class, system, ModelTree}
+use Rattle.pz_classes_code.specs.ReservedNames.{is_primitive, is_unsupported}
+use Rattle.pz_classes.specs.Numbers.{declaration, class}
+use Rattle.pz_classes.specs.Kinds.{is_process, is_cluster, is_declared_as}
+use Rattle.pz_classes.specs.NameRules.{has_instances}
+use Rattle.pz_classes.specs.Instances.{instances, instance_class}
+use Rattle.pz_classes.specs.SoundSystem.{SystemFits}
+use Rattle.pz_bind.specs.Nest.{is_system, instances_in, class_of}
+use Rattle.pz_env_joined.proofs.Alike.{Alike, same, systems, Grown, Became, became, IsDeclared, of_declared}
+use Rattle.pz_env_joined.proofs.Lineage.{class_declared}
+
+-- a class that is no system
+pub record IsInner (m : ModelTree) (c : ℕ) : Type 0 where
+  pub decl : DeclTree
+  pub is : declaration m c ≡ Some decl
+  pub inner : is_system decl ≡ false
+
+-- what stands for a class that may have instances is one
+pub record IsClassOf (m : ModelTree) (name : List ℕ) (k : ℕ) : Type 0 where
+  pub supported : is_unsupported name ≡ false
+  pub has : has_instances m name ≡ true
+  pub class : class m name ≡ Some k
+
+pub class_is : (m : ModelTree) (name : List ℕ) (k : ℕ) → instance_class m name ≡ Some k → IsClassOf m name k
+class_is m name k is = by_tests (is_unsupported name) (has_instances m name) refl refl
+  where
+    by_tests : (u h : Bool) → is_unsupported name ≡ u → has_instances m name ≡ h → IsClassOf m name k
+    by_tests true h left_out has = let none : None ≡ Some k = rw left_out at is in cc
+    by_tests false false left_out has = let none : None ≡ Some k = rw (left_out, has) at is in cc
+    by_tests false true left_out has = record { supported = left_out; has = has; class = rw (left_out, has) at is }
+
+-- of a sort
+sort_is : (m : ModelTree) (sort : DeclTree → Bool) (name : List ℕ) (k : ℕ) → class m name ≡ Some k → is_declared_as sort m name ≡ option_map_or sort (declaration m k) false
+sort_is m sort name k is = ap (λ (o : Option ℕ). option_map_or sort (option_and_then (declaration m) o) false) is
+
+not_system : (d : DeclTree) → is_process d || is_cluster d ≡ true → is_system d ≡ false
+not_system (data_class d) is = refl
+not_system (process_class d) is = refl
+not_system (cluster_class d) is = refl
+not_system (system d) is = cc
+
+second_true : (a b : Bool) → a && b ≡ true → b ≡ true
+second_true true b is = is
+second_true false b is = cc
+
+pub class_inner : (m : ModelTree) (name : List ℕ) (k : ℕ) → instance_class m name ≡ Some k → IsInner m k
+class_inner m name k is =
+    let at = class_is m name k is in
+    let declared = class_declared m name k at.class in
+    let sort : is_declared_as is_process m name || is_declared_as is_cluster m name ≡ true = second_true (not (is_primitive name)) (is_declared_as is_process m name || is_declared_as is_cluster m name) at.has in
+    let one = sort_is m is_process name k at.class ∙ ap (λ (o : Option DeclTree). option_map_or is_process o false) declared.1 in
+    let other = sort_is m is_cluster name k at.class ∙ ap (λ (o : Option DeclTree). option_map_or is_cluster o false) declared.1 in
+    record {
+      decl = declared.0;
+      is = declared.1;
+      inner = not_system declared.0 (ap (λ (b : Bool). b || is_cluster declared.0) (sym one) ∙ ap (λ (b : Bool). is_declared_as is_process m name || b) (sym other) ∙ sort);
+    }
+
+module _ (m n : ModelTree) (grown : Grown m n) where
+  sort_same : (sort : DeclTree → Bool) → ((s t : _) → sort (system s) ≡ sort (system t)) → (name : List ℕ) (k : ℕ) → class m name ≡ Some k → is_declared_as sort n name ≡ is_declared_as sort m name
+  sort_same sort still name k is =
+      sort_is n sort name k (grown.classes name k is)
+      ∙ sym (of_declared sort false still m n grown k (class_declared m name k is))
+      ∙ sym (sort_is m sort name k is)
+
+  pub instance_class_kept : (name : List ℕ) (k : ℕ) → instance_class m name ≡ Some k → instance_class n name ≡ Some k
+  instance_class_kept name k is =
+      let at = class_is m name k is in
+      let has : has_instances n name ≡ true =
+          ap (λ (b : Bool). not (is_primitive name) && (b || is_declared_as is_cluster n name)) (sort_same is_process (λ s t. refl) name k at.class)
+          ∙ ap (λ (b : Bool). not (is_primitive name) && (is_declared_as is_process m name || b)) (sort_same is_cluster (λ s t. refl) name k at.class)
+          ∙ at.has
+      in
+      ap (λ (b : Bool). if b then None else if has_instances n name then class n name else None) at.supported
+      ∙ ap (λ (b : Bool). if b then class n name else None) has
+      ∙ grown.classes name k at.class
+
+  inner_stays : (d e : DeclTree) → is_system d ≡ false → Alike d e → d ≡ e
+  inner_stays _ _ inner (same d) = refl
+  inner_stays _ _ inner (systems s t) = cc
+
+  -- a class that is no system has the parts that it had
+  pub inner_same : {A : Type 0} (part : DeclTree → List A) (c : ℕ) → IsInner m c → option_map_or part (declaration m c) [] ≡ option_map_or part (declaration n c) []
+  inner_same part c at =
+      let now = became m n grown c at.decl at.is in
+      ap (λ (o : Option DeclTree). option_map_or part o []) at.is
+      ∙ ap part (inner_stays at.decl now.decl at.inner now.like)
+      ∙ sym (ap (λ (o : Option DeclTree). option_map_or part o []) now.there)
+
+  -- its instances
+  pub instances_same : (c : ℕ) → IsInner m c → instances_in m c ≡ instances_in n c
+  instances_same c at = inner_same instances c at
+
+-- the class of an instance of a sound model
+module _ (m : ModelTree) (fits : SystemFits m) where
+  pub instance_known : (c : ℕ) (d : DeclTree) (x : Instance) → declaration m c ≡ Some d → Contains (instances d) x → (k : ℕ) × (instance_class m x.class.name ≡ Some k)
+  instance_known c d x is at = let fit = (fits.parts_fit c d is).instances_fit x at in (fit.class, fit.is_class)
+
+  -- an instance in a level
+  pub in_level : (c : ℕ) (x : Instance) → Contains (instances_in m c) x → (d : DeclTree) × (declaration m c ≡ Some d) × Contains (instances d) x
+  in_level c x at = by (declaration m c) refl at
+    where
+      by : (o : Option DeclTree) → declaration m c ≡ o → Contains (option_map_or instances o []) x → (d : DeclTree) × (declaration m c ≡ Some d) × Contains (instances d) x
+      by None is (k, low, there) = absurd (omega (arith, low))
+      by (Some d) is there = (d, is, there)
+
+  pub level_known : (c : ℕ) (x : Instance) → Contains (instances_in m c) x → (k : ℕ) × (instance_class m x.class.name ≡ Some k)
+  level_known c x at = let there = in_level c x at in instance_known c there.0 x there.1 there.2
+
+pub class_of_is : (m : ModelTree) (x : Instance) (k : ℕ) → instance_class m x.class.name ≡ Some k → class_of m x ≡ k
+class_of_is m x k is = ap (λ (o : Option ℕ). unwrap_or o 0) is

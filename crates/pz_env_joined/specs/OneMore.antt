@@ -1,0 +1,33 @@
+-- What the closed model has: all that the model with the further channels has, and one process more.
+use Rattle.std.specs.Prelude.{◌≡◌, ℕ, suc, List, [], ◌∷◌, ◌++◌, length, Some}
+use Rattle.pz_syntax.specs.Classes.{ModelTree}
+use Rattle.pz_classes.specs.Numbers.{class}
+use Rattle.pz_classes.specs.Tables.{class_names}
+use Rattle.pz_bind_levels.specs.Places.{Address}
+use Rattle.pz_bind.specs.Nest.{class_at, instances_at, processes}
+use Rattle.pz_bind.specs.Wires.{wires}
+use Rattle.pz_env_script.specs.declared.entry.Entry.{Entry}
+use Rattle.pz_env_rules.specs.Environment.{Line}
+use Rattle.pz_env_rules.specs.Joining.{joined}
+use Rattle.pz_env_tree.specs.Names.{class_name}
+use Rattle.pz_env_tree.specs.ClosedTree.{closed_by}
+use Rattle.pz_env_tree.specs.Refusals.{IsFirstRefused}
+
+-- the script may drive the system of the model
+abbrev pub IsAccepted : ModelTree → List Entry → Type 0
+IsAccepted m script = (line : ℕ) → ¬ IsFirstRefused m script line
+
+-- the class of the environment is the last, and its instance stands behind those of the system
+abbrev pub environment_class_number : ModelTree → ℕ
+environment_class_number m = suc (length m.decls)
+
+abbrev pub environment_place : ModelTree → Address
+environment_place m = length (instances_at m []) ∷ []
+
+pub record HasOneMore (m : ModelTree) (lines : List Line) : Type 0 where
+  pub names : class_names (closed_by m lines) ≡ class_names m ++ class_name ∷ []
+  pub class : class (closed_by m lines) class_name ≡ Some (environment_class_number m)
+  pub processes : processes (closed_by m lines) ≡ processes (joined m lines) ++ environment_place m ∷ []
+  pub is_of : class_at (closed_by m lines) (environment_place m) ≡ environment_class_number m
+  -- the same wires, with the same numbers
+  pub wires : wires (joined m lines) ≡ wires (closed_by m lines)

@@ -1,0 +1,30 @@
+// Laws of closed systems, each the contract of a function that does nothing.
+
+ghost use Rattle.pz_env_joined.specs.Laws.{ClosedHasSameRules, ClosedHasOneMore, ClosedHasEnvironment};
+
+/// The model that a script closes has the rules of the model with the further channels: what evaluation
+/// takes of it, the processes with all that belongs to them, and their wires.
+pub fn closed_has_same_rules()
+    ensures law { ClosedHasSameRules }
+{
+    pz_classes::laws::ancestors_are_reached();
+    pz_classes::laws::sound_systems_fit();
+    pz_rules::laws::calls_unfold();
+}
+
+/// It has one class and one process more, behind all others, and the same wires.
+pub fn closed_has_one_more()
+    ensures law { ClosedHasOneMore }
+{
+    pz_classes::laws::sound_systems_fit();
+}
+
+/// That process is the environment: its one method does the lines of the script, and the wire of the port
+/// of a line is the wire of the line in the driven system.
+pub fn closed_has_environment()
+    ensures law { ClosedHasEnvironment }
+{
+    pz_classes::laws::ancestors_are_reached();
+    pz_classes::laws::sound_systems_fit();
+    pz_rules::laws::calls_unfold();
+}

@@ -1,0 +1,4 @@
+//! The model of a system that is closed by a script has the rules of the system that the script drives.
+#![tactic(auto)]
+
+pub mod laws;
