@@ -94,8 +94,8 @@ WrittenLinesArePlain = (script : List Entry) → IsWritten script → ArePlain (
 
 -- Closed trees
 
--- A script that a text writes, and that may drive the system of a sound model: the tree of the system that it
--- closes is such a model.
+-- The tree of a sound model whose system a script closes is a model that closes the driven system, where a text
+-- writes the script and it may drive that system.
 abbrev pub ClosedTreesClose : Type 0
 ClosedTreesClose = (m : ModelTree) (script : List Entry) (limits : Limits) → IsSound m → Opens m → IsAccepted m script → IsWritten script → MayDrive limits
     → Closes (driving m script limits) (closed_tree m script)
