@@ -1,8 +1,7 @@
 -- What is known where a script may drive a system: no class and no instance of the system has a name of the
 -- environment, no line of the script names it, and no channel of the system.
-use Rattle.std.proofs.Common.{◌≡◌, refl, sym, ap, ◌∙◌, ℕ, zero, suc, ◌+◌, ◌<◌, ◌≤◌, Bool, true, false, ◌&&◌, ◌||◌, List, [], ◌∷◌, map, length, Option, Some, None, slice_get, arith}
-use Rattle.std.specs.Prelude.{IsTrue, slice_index_or}
-use Rattle.std.specs.List.{Contains, Any, find, flat_map, list_any}
+use Rattle.std.proofs.Common.{◌≡◌, refl, sym, ap, ◌∙◌, ℕ, zero, suc, ◌+◌, ◌<◌, Bool, true, false, List, [], ◌∷◌, Option, Some, None, slice_get, arith}
+use Rattle.std.specs.List.{Contains, find, flat_map, list_any}
 use Rattle.std.specs.Option.{option_map_or}
 use Rattle.std.specs.Str.{bytes_eq}
 use Rattle.std.proofs.lemmas.List.Elements.{Contains-append_left, Contains-append_right}
@@ -14,18 +13,17 @@ use Rattle.pz_syntax.specs.declared.clusters.ChannelEnd.TheVariants.{Inner, Oute
 use Rattle.pz_syntax.specs.declared.clusters.SystemDecl.{SystemDecl}
 use Rattle.pz_syntax.specs.Classes.{DeclTree, system, ModelTree}
 use Rattle.pz_classes.specs.Numbers.{declaration, class}
-use Rattle.pz_classes.specs.Members.{ports, spelled}
 use Rattle.pz_classes.specs.Instances.{instances, channels}
-use Rattle.pz_classes.specs.ChannelRules.{ends, instance_named}
+use Rattle.pz_classes.specs.ChannelRules.{ends}
 use Rattle.pz_classes.specs.SoundSystem.{SystemFits, InnerFits}
-use Rattle.pz_bind.specs.Nest.{system_class, class_of, instances_at, channels_at}
+use Rattle.pz_bind.specs.Nest.{system_class, instances_at, channels_at}
 use Rattle.pz_bind.specs.Connections.{is_inner, names_inner}
 use Rattle.pz_env_script.specs.declared.entry.Entry.{Entry}
 use Rattle.pz_env_rules.specs.Environment.{Line, lines_from, lines_of}
 use Rattle.pz_env_tree.specs.Names.{class_name, instance_name}
 use Rattle.pz_env_tree.specs.Refusals.{IsFull, has_class, has_instance, IsPort, IsBadEntry, no_port, IsFirstRefused, no_room, bad_entry}
 use Rattle.pz_env_joined.proofs.Members.{first_in, later_in}
-use Rattle.pz_env_joined.proofs.Places.{got_in, system_declared}
+use Rattle.pz_env_joined.proofs.Places.{system_declared}
 
 pub in_got : {A : Type 0} (xs : List A) (x : A) → Contains xs x → (i : ℕ) × (slice_get xs i ≡ Some x)
 in_got [] x (k, low, is) = absurd (omega (arith, low))
@@ -49,7 +47,8 @@ found_passes {A} p (y ∷ ys) x is = by (p y) refl (found_passes p ys x)
     by true does rest = let chosen : Some y ≡ Some x = rw does at is in let eq : y ≡ x = cc in ((0, omega arith, eq), ap p (sym eq) ∙ does)
     by false does rest = let r = rest (rw does at is) in (later_in y ys x r.0, r.1)
 
-in_flat : {A B : Type 0} (f : A → List B) (xs : List A) (i : ℕ) (x : A) (y : B) → slice_get xs i ≡ Some x → Contains (f x) y → Contains (flat_map f xs) y
+in_flat : {A B : Type 0} (f : A → List B) (xs : List A) (i : ℕ) (x : A) (y : B) → slice_get xs i ≡ Some x → Contains (f x) y
+    → Contains (flat_map f xs) y
 in_flat f [] i x y at has = cc
 in_flat f (z ∷ zs) zero x y at has = let eq : z ≡ x = cc in Contains-append_left (f z) (flat_map f zs) y (rw eq has)
 in_flat f (z ∷ zs) (suc i) x y at has = Contains-append_right (f z) (flat_map f zs) y (in_flat f zs i x y at has)
@@ -81,7 +80,8 @@ module _ (m : ModelTree) (script : List Entry) (accepted : (line : ℕ) → IsFi
       no_such : IsPort m x.entry → ⊥
       no_such (k, y, low, is, (same, has)) = no_instance y (k, low, is) (same ∙ named)
 
-  pub no_channel : SystemFits m → (k : ℕ) (h : Channel) (port : List ℕ) → slice_get (channels_at m []) k ≡ Some h → names_inner instance_name port h ≡ true → ⊥
+  pub no_channel : SystemFits m → (k : ℕ) (h : Channel) (port : List ℕ) → slice_get (channels_at m []) k ≡ Some h
+      → names_inner instance_name port h ≡ true → ⊥
   no_channel fits k h port at names = by_end h.ends (λ e among. among) names
     where
       s : (s : SystemDecl) × (declaration m (system_class m) ≡ Some (system s))

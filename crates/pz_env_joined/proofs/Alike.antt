@@ -1,11 +1,9 @@
 -- A model that has all declarations of another, and more behind them. Of what was there only systems have
 -- changed; what is new are process classes without a parent.
 use Rattle.std.proofs.Common.{◌≡◌, refl, sym, ap, ◌∙◌, ℕ, zero, suc, ◌+◌, Bool, true, false, List, [], ◌∷◌, ◌++◌, map, length, Option, Some, None, slice_get, arith}
-use Rattle.std.specs.Prelude.{if◌then◌else◌}
 use Rattle.std.specs.Option.{option_map_or}
-use Rattle.pz_syntax.specs.declared.names.Id.{Id}
 use Rattle.pz_syntax.specs.declared.clusters.SystemDecl.{SystemDecl}
-use Rattle.pz_syntax.specs.Classes.{ProcessClassTree, DeclTree, data_class, process_class, cluster_class, system, ModelTree}
+use Rattle.pz_syntax.specs.Classes.{ProcessClassTree, DeclTree, process_class, system, ModelTree}
 use Rattle.pz_classes.specs.Numbers.{is_named, declaration, first_named, class}
 use Rattle.pz_bind.specs.Nest.{is_system, first_system}
 
@@ -33,7 +31,8 @@ of_alike f still _ _ (same d) = refl
 of_alike f still _ _ (systems s t) = still s t
 
 -- and of what has a number, if what is new has nothing of it
-pub of_both : {A : Type 0} (f : DeclTree → A) (none : A) → ((s t : SystemDecl) → f (system s) ≡ f (system t)) → ((p : ProcessClassTree) → f (process_class p) ≡ none)
+pub of_both : {A : Type 0} (f : DeclTree → A) (none : A) → ((s t : SystemDecl) → f (system s) ≡ f (system t))
+    → ((p : ProcessClassTree) → f (process_class p) ≡ none)
     → (o q : Option DeclTree) → Both o q → option_map_or f o none ≡ option_map_or f q none
 of_both f none still empty _ _ (old d e like) = of_alike f still d e like
 of_both f none still empty _ _ nothing = refl
@@ -58,7 +57,8 @@ abbrev pub IsDeclared : ModelTree → ℕ → Type 0
 IsDeclared m c = (d : DeclTree) × (declaration m c ≡ Some d)
 
 -- what is the same of every system is the same of a class of the model
-pub of_declared : {A : Type 0} (f : DeclTree → A) (none : A) → ((s t : SystemDecl) → f (system s) ≡ f (system t)) → (m n : ModelTree) → Grown m n → (c : ℕ) → IsDeclared m c
+pub of_declared : {A : Type 0} (f : DeclTree → A) (none : A) → ((s t : SystemDecl) → f (system s) ≡ f (system t))
+    → (m n : ModelTree) → Grown m n → (c : ℕ) → IsDeclared m c
     → option_map_or f (declaration m c) none ≡ option_map_or f (declaration n c) none
 of_declared f none still m n grown c (d, is) =
     let now = became m n grown c d is in
@@ -90,11 +90,14 @@ module _ (f : DeclTree → DeclTree) (like : (d : DeclTree) → Alike d (f d)) w
   at_place (d ∷ ds) es roots zero = old d (f d) (like d)
   at_place (d ∷ ds) es roots (suc i) = at_place ds es roots i
 
-  keeps_named : (ds es : List DeclTree) (n : ℕ) (name : List ℕ) (k : ℕ) → first_named ds n name ≡ Some k → first_named (map f ds ++ es) n name ≡ Some k
+  keeps_named : (ds es : List DeclTree) (n : ℕ) (name : List ℕ) (k : ℕ) → first_named ds n name ≡ Some k
+      → first_named (map f ds ++ es) n name ≡ Some k
   keeps_named [] es n name k is = cc
   keeps_named (d ∷ ds) es n name k is = by (is_named name d) refl (keeps_named ds es (suc n) name k)
     where
-      by : (b : Bool) → is_named name d ≡ b → (first_named ds (suc n) name ≡ Some k → first_named (map f ds ++ es) (suc n) name ≡ Some k) → first_named (map f (d ∷ ds) ++ es) n name ≡ Some k
+      by : (b : Bool) → is_named name d ≡ b
+          → (first_named ds (suc n) name ≡ Some k → first_named (map f ds ++ es) (suc n) name ≡ Some k)
+          → first_named (map f (d ∷ ds) ++ es) n name ≡ Some k
       by true does rest = let here : Some n ≡ Some k = rw does at is in rw (sym (is_named_like name d (f d) (like d)) ∙ does) here
       by false does rest = rw (sym (is_named_like name d (f d) (like d)) ∙ does) (rest (rw does at is))
 
@@ -106,7 +109,8 @@ module _ (f : DeclTree → DeclTree) (like : (d : DeclTree) → Alike d (f d)) w
   keeps_system [] es roots n = no_system es roots n
   keeps_system (d ∷ ds) es roots n = rw (sym (is_system_like d (f d) (like d)), keeps_system ds es roots (suc n)) refl
 
-  number_at : (m n : ModelTree) (es : List DeclTree) → n.decls ≡ map f m.decls ++ es → AreRoots es → (c : ℕ) → Both (declaration m c) (declaration n c)
+  number_at : (m n : ModelTree) (es : List DeclTree) → n.decls ≡ map f m.decls ++ es → AreRoots es → (c : ℕ)
+      → Both (declaration m c) (declaration n c)
   number_at m n es is roots zero = nothing
   number_at m n es is roots (suc i) = rw is (at_place m.decls es roots i)
 

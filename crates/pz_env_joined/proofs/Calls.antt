@@ -1,17 +1,13 @@
 -- A plain call becomes the same in what has grown out of a sound model without rounds: to follow calls deeper
 -- than there are methods comes to nothing new.
-use Rattle.std.proofs.Common.{◌≡◌, refl, sym, ap, ◌∙◌, ◌⊎◌, inl, inr, subst, ℕ, zero, suc, Bool, true, false, List, [], ◌∷◌, ◌++◌, length, map, Option, Some, None, slice_get, drop}
+use Rattle.std.proofs.Common.{◌≡◌, refl, sym, ap, ◌∙◌, ◌⊎◌, inl, inr, subst, ℕ, zero, suc, Option, Some, None}
 use Rattle.std.proofs.Math.Path.{fun_ext}
 use Rattle.pz_syntax.specs.declared.tokens.Pos.{Pos}
 use Rattle.pz_syntax.specs.declared.names.Id.{Id}
-use Rattle.pz_syntax.specs.Expressions.{Expressions, none, more}
 use Rattle.pz_syntax.specs.Statements.{skip, delay, bracketed, block, guarded, parallel, select, conditional, repeated, abort, interrupt, send, receive, call, assignment, value}
 use Rattle.pz_syntax.specs.Classes.{ModelTree}
-use Rattle.pz_value.specs.declared.value.ClassId.{ClassId}
-use Rattle.pz_classes_code.specs.declared.slot.Slot.{Slot}
 use Rattle.pz_classes.specs.declared.method_id.Counts.TheVariants.{Process as process_counts}
 use Rattle.pz_classes.specs.Bodies.{BodyTree, data_body, process_body}
-use Rattle.pz_classes.specs.MethodBodies.{process_method_body, HasBody}
 use Rattle.pz_classes.specs.Soundness.{IsSound}
 use Rattle.pz_classes_openings.specs.OpeningRules.{Opens}
 use Rattle.pz_state.specs.States.{StateView}
@@ -20,7 +16,7 @@ use Rattle.pz_rules.specs.declared.limits.Edition.TheVariants.{One, Two}
 use Rattle.pz_rules.specs.Terms.{Step, Steps, leaf}
 use Rattle.pz_rules.specs.Settings.{Process, left_by, Home}
 use Rattle.pz_rules.specs.Openable.{IsProcessClass}
-use Rattle.pz_rules.specs.Opening.{steps_opened, in_frame, called_body, by_body, entered_to, depth_of, enter_in, enter, opened}
+use Rattle.pz_rules.specs.Opening.{steps_opened, in_frame, called_body, by_body, entered_to, depth_of, enter_in, enter}
 use Rattle.pz_rules.specs.CallLaws.{plain_call, OpensCalls, IsCalled, CallsUnfold}
 use Rattle.pz_env_same.specs.SameRules.{home_in}
 use Rattle.pz_env_joined.proofs.Numbered.{has_body}
@@ -75,10 +71,12 @@ module _ (unfolds : CallsUnfold) (h : Home) (opens : OpensCalls h) where
   no_method (suc k) pos x s (Some (data_body locals e)) is never = ap (λ (o : Option BodyTree). by_body o (steps_opened (entered_to h k)) (plain_call pos x) s) is
   no_method (suc k) pos x s (Some (process_body locals body)) is never = absurd (never locals body refl)
 
-  pub deeper : (pos : Pos) (x : Id) (s : StateView) → entered_to h (suc (depth_of h.model)) (plain_call pos x) s ≡ entered_to h (depth_of h.model) (plain_call pos x) s
+  pub deeper : (pos : Pos) (x : Id) (s : StateView)
+      → entered_to h (suc (depth_of h.model)) (plain_call pos x) s ≡ entered_to h (depth_of h.model) (plain_call pos x) s
   deeper pos x s = by (called_body h x) refl
     where
-      by : (o : Option BodyTree) → called_body h x ≡ o → entered_to h (suc (depth_of h.model)) (plain_call pos x) s ≡ entered_to h (depth_of h.model) (plain_call pos x) s
+      by : (o : Option BodyTree) → called_body h x ≡ o
+          → entered_to h (suc (depth_of h.model)) (plain_call pos x) s ≡ entered_to h (depth_of h.model) (plain_call pos x) s
       by None is = no_method (suc (depth_of h.model)) pos x s None is (λ locals body eq. cc) ∙ sym (no_method (depth_of h.model) pos x s None is (λ locals body eq. cc))
       by (Some (data_body locals e)) is =
           no_method (suc (depth_of h.model)) pos x s (Some (data_body locals e)) is (λ l body eq. cc)
@@ -88,7 +86,8 @@ module _ (unfolds : CallsUnfold) (h : Home) (opens : OpensCalls h) where
           ∙ sym (unfolded pos x locals body s is)
 
 -- What a plain call becomes in what has grown out of a sound model, with a method more or with none
-pub calls_same : CallsUnfold → (m n : ModelTree) → IsSound m → Opens m → (class : ℕ) → IsProcessClass m class → ((x : Id) → called_body (home_in m Two class) x ≡ called_body (home_in n Two class) x)
+pub calls_same : CallsUnfold → (m n : ModelTree) → IsSound m → Opens m → (class : ℕ) → IsProcessClass m class
+    → ((x : Id) → called_body (home_in m Two class) x ≡ called_body (home_in n Two class) x)
     → (depth_of n ≡ depth_of m) ⊎ (depth_of n ≡ suc (depth_of m)) → (edition : Edition) (pos : Pos) (x : Id) (s : StateView)
     → enter (home_in m edition class) (plain_call pos x) s ≡ enter (home_in n edition class) (plain_call pos x) s
 calls_same unfolds m n sound opens class process same depths One pos x s = refl

@@ -1,8 +1,8 @@
 -- The model with the further channels, and the closed one, have grown out of the model.
-use Rattle.std.proofs.Common.{◌≡◌, refl, sym, ap, ◌∙◌, ℕ, zero, suc, ◌+◌, Bool, true, false, List, [], ◌∷◌, ◌++◌, append_assoc, map, length, Option, Some, None, slice_get, arith}
-use Rattle.std.specs.Prelude.{if◌then◌else◌, codes}
+use Rattle.std.proofs.Common.{◌≡◌, refl, sym, ap, ◌∙◌, ℕ, zero, suc, ◌+◌, Bool, true, false, List, [], ◌∷◌, ◌++◌, map, length, Option, Some, None, slice_get, arith}
+use Rattle.std.specs.Prelude.{codes}
 use Rattle.std.specs.List.{flat_map}
-use Rattle.std.specs.Option.{option_map, option_map_or, option_and_then, unwrap_or}
+use Rattle.std.specs.Option.{option_map, option_map_or, unwrap_or}
 use Rattle.std.proofs.lemmas.List.{length-append}
 use Rattle.std.proofs.lemmas.Option.{slice_get-map}
 use Rattle.pz_syntax.specs.declared.clusters.Instance.{Instance}
@@ -21,7 +21,7 @@ use Rattle.pz_env_rules.specs.Joining.{with_channels, decl_with, joined}
 use Rattle.pz_env_tree.specs.Names.{class_name}
 use Rattle.pz_env_tree.specs.EnvironmentClass.{environment_class}
 use Rattle.pz_env_tree.specs.ClosedTree.{environment, channel_of, closed_system, closed_decl, closed_by}
-use Rattle.pz_env_joined.proofs.Alike.{Alike, same, systems, AreRoots, no_more, one_more, Grown, grown_so, of_alike}
+use Rattle.pz_env_joined.proofs.Alike.{Alike, same, systems, no_more, one_more, Grown, grown_so, of_alike}
 use Rattle.pz_env_joined.proofs.Places.{got_first, system_declared}
 
 pub append_nil : {A : Type 0} (xs : List A) → xs ≡ xs ++ []
@@ -36,10 +36,12 @@ module _ (m n : ModelTree) (f : DeclTree → DeclTree) (es : List DeclTree) (is 
       ap (λ (ds : List DeclTree). slice_get ds i) is
       ∙ got_first (map f m.decls) es i (f d) (slice_get-map f m.decls i ∙ ap (option_map f) at)
 
-  changed_part : {A : Type 0} (part : DeclTree → List A) (c : ℕ) (d : DeclTree) → declaration m c ≡ Some d → option_map_or part (declaration n c) [] ≡ part (f d)
+  changed_part : {A : Type 0} (part : DeclTree → List A) (c : ℕ) (d : DeclTree) → declaration m c ≡ Some d
+      → option_map_or part (declaration n c) [] ≡ part (f d)
   changed_part part c d at = ap (λ (o : Option DeclTree). option_map_or part o []) (changed c d at)
 
-  methods_of : (like : (d : DeclTree) → Alike d (f d)) (ds : List DeclTree) → length (flat_map declared_methods (map f ds ++ es)) ≡ length (flat_map declared_methods ds) + length (flat_map declared_methods es)
+  methods_of : (like : (d : DeclTree) → Alike d (f d)) (ds : List DeclTree)
+      → length (flat_map declared_methods (map f ds ++ es)) ≡ length (flat_map declared_methods ds) + length (flat_map declared_methods es)
   methods_of like [] = omega arith
   methods_of like (d ∷ ds) =
       let rest = methods_of like ds in
@@ -61,11 +63,15 @@ module _ (m n : ModelTree) (f : DeclTree → DeclTree) (es : List DeclTree) (is 
   more_names like = ap (λ (ds : List DeclTree). codes "Array" ∷ map spelling ds) is ∙ ap (λ (names : List (List ℕ)). codes "Array" ∷ names) (names_of like m.decls)
 
 -- the number of what is behind
-behind_named : (f : DeclTree → DeclTree) (like : (d : DeclTree) → Alike d (f d)) (e : DeclTree) (name : List ℕ) → is_named name e ≡ true → (ds : List DeclTree) (k : ℕ) → first_named ds k name ≡ None → first_named (map f ds ++ e ∷ []) k name ≡ Some (k + length ds)
+behind_named : (f : DeclTree → DeclTree) (like : (d : DeclTree) → Alike d (f d)) (e : DeclTree) (name : List ℕ)
+    → is_named name e ≡ true → (ds : List DeclTree) (k : ℕ) → first_named ds k name ≡ None
+    → first_named (map f ds ++ e ∷ []) k name ≡ Some (k + length ds)
 behind_named f like e name named [] k none = let eq : k ≡ k + 0 = omega arith in rw named (ap Some eq)
 behind_named f like e name named (d ∷ ds) k none = by (is_named name d) refl (behind_named f like e name named ds (suc k))
   where
-    by : (b : Bool) → is_named name d ≡ b → (first_named ds (suc k) name ≡ None → first_named (map f ds ++ e ∷ []) (suc k) name ≡ Some (suc k + length ds)) → first_named (map f (d ∷ ds) ++ e ∷ []) k name ≡ Some (k + length (d ∷ ds))
+    by : (b : Bool) → is_named name d ≡ b
+        → (first_named ds (suc k) name ≡ None → first_named (map f ds ++ e ∷ []) (suc k) name ≡ Some (suc k + length ds))
+        → first_named (map f (d ∷ ds) ++ e ∷ []) k name ≡ Some (k + length (d ∷ ds))
     by true does rest = let wrong : Some k ≡ None = rw does at none in cc
     by false does rest =
         let other : is_named name (f d) ≡ false = sym (of_alike (is_named name) (λ s t. refl) d (f d) (like d)) ∙ does in

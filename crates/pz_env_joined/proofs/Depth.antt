@@ -1,6 +1,5 @@
 -- In a sound model no more levels stand in one another than there are classes: what is deeper holds itself.
-use Rattle.std.proofs.Common.{◌≡◌, refl, sym, ap, ◌∙◌, ◌⊎◌, inl, inr, subst, ℕ, zero, suc, ◌+◌, ◌<◌, ◌≤◌, Bool, true, false, List, [], ◌∷◌, ◌++◌, length, Option, Some, None, slice_get, eqb, arith}
-use Rattle.std.specs.Prelude.{IsTrue}
+use Rattle.std.proofs.Common.{◌≡◌, refl, sym, ap, ◌∙◌, ◌⊎◌, inl, inr, subst, ℕ, zero, suc, ◌<◌, ◌≤◌, Bool, true, false, List, [], ◌∷◌, ◌++◌, length, Option, Some, eqb, arith}
 use Rattle.std.specs.List.{Contains, IsDistinct, AllByRecursion, list_any}
 use Rattle.std.specs.Option.{option_map_or}
 use Rattle.std.proofs.lemmas.Bool.{eqb-true}
@@ -24,7 +23,8 @@ apart : (c : ℕ) (xs : List ℕ) → list_any (eqb c) xs ≡ false → AllByRec
 apart c [] none = tt
 apart c (x ∷ xs) none = by (eqb c x) refl (apart c xs)
   where
-    by : (b : Bool) → eqb c x ≡ b → (list_any (eqb c) xs ≡ false → AllByRecursion (λ y. eqb c y ≡ false) xs) → AllByRecursion (λ y. eqb c y ≡ false) (x ∷ xs)
+    by : (b : Bool) → eqb c x ≡ b → (list_any (eqb c) xs ≡ false → AllByRecursion (λ y. eqb c y ≡ false) xs)
+        → AllByRecursion (λ y. eqb c y ≡ false) (x ∷ xs)
     by true is rest = let wrong : true ≡ false = rw is at none in cc
     by false is rest = (is, rest (rw is at none))
 
@@ -38,7 +38,8 @@ module _ (m : ModelTree) (fits : SystemFits m) where
   -- classes of which each has an instance of the next, and the last has some instance
   data Chain : ℕ → List ℕ → Type 0 where
     last : (c : ℕ) (d : DeclTree) (x : Instance) → declaration m c ≡ Some d → Contains (instances d) x → Chain c (c ∷ [])
-    on : (c k : ℕ) (d : DeclTree) (x : Instance) (cs : List ℕ) → declaration m c ≡ Some d → Contains (instances d) x → instance_class m x.class.name ≡ Some k → Chain k cs → Chain c (c ∷ cs)
+    on : (c k : ℕ) (d : DeclTree) (x : Instance) (cs : List ℕ) → declaration m c ≡ Some d → Contains (instances d) x
+        → instance_class m x.class.name ≡ Some k → Chain k cs → Chain c (c ∷ cs)
 
   holds_later : (b : ℕ) (bs : List ℕ) (k : ℕ) → Chain b bs → list_any (eqb k) bs ≡ true → (b ≡ k) ⊎ Holds m b k
   holds_later _ _ k (last c d x is at) among = by (eqb k c) refl
@@ -128,7 +129,8 @@ module _ (m : ModelTree) (fits : SystemFits m) where
     abbrev Each : ℕ → List Instance → Type 0
     Each l xs = (k : ℕ) → l ≤ k → (up : Address) (i : ℕ) → each_instance (with_inside m (inside m k) up) i xs ≡ each_instance (with_inside m (inside m l) up) i xs
 
-    walk : (l : ℕ) → ((k : ℕ) → IsDeclared m k → IsAll l k ⊎ Longer l k) → (xs : List Instance) → ((x : Instance) → Contains xs x → Contains (instances d) x) → Each l xs ⊎ Longer (suc l) c
+    walk : (l : ℕ) → ((k : ℕ) → IsDeclared m k → IsAll l k ⊎ Longer l k) → (xs : List Instance)
+        → ((x : Instance) → Contains xs x → Contains (instances d) x) → Each l xs ⊎ Longer (suc l) c
     walk l below [] among = inl (λ k le up i. refl)
     walk l below (x ∷ xs) among = by_class (instance_known m fits c d x is (among x (first_in x xs))) (walk l below xs (λ y at. among y (later_in x xs y at)))
       where

@@ -17,7 +17,7 @@ use Rattle.pz_classes.specs.SoundSystem.{SystemFits}
 use Rattle.pz_classes_openings.specs.OpeningRules.{Opens}
 use Rattle.pz_bind_levels.specs.Places.{Address}
 use Rattle.pz_bind_levels.specs.Wires.{Channel, channel}
-use Rattle.pz_bind.specs.Nest.{class_at, channels_at, levels, processes}
+use Rattle.pz_bind.specs.Nest.{channels_at, levels, processes}
 use Rattle.pz_bind.specs.Names.{path, wire_name}
 use Rattle.pz_bind.specs.Values.{given_value, parameter_at, values_at}
 use Rattle.pz_bind.specs.Wires.{is_joined, ending, wires_at, wires}
@@ -29,17 +29,16 @@ use Rattle.pz_env_rules.specs.Joining.{joined, driving}
 use Rattle.pz_env_tree.specs.Names.{method_name, variable_name, end_number}
 use Rattle.pz_env_tree.specs.EnvironmentClass.{first_place, named}
 use Rattle.pz_env_tree.specs.ClosedTree.{environment, closed_by}
-use Rattle.pz_env_same.specs.SameRules.{SameProcess, SameRules}
+use Rattle.pz_env_same.specs.SameRules.{SameRules}
 use Rattle.pz_env_joined.specs.OneMore.{IsAccepted, HasOneMore}
-use Rattle.pz_env_joined.specs.Environments.{HasEnvironment}
-use Rattle.pz_env_joined.proofs.Alike.{Grown}
+use Rattle.pz_env_mimics.specs.Environments.{HasEnvironment}
 use Rattle.pz_env_joined.proofs.Places.{Stands}
 use Rattle.pz_env_joined.proofs.Standing.{path_same}
 use Rattle.pz_env_joined.proofs.Closing.{grown_joined, grown_closed, joined_instances, closed_instances, closed_methods, joined_names, closed_names, env_named}
 use Rattle.pz_env_joined.proofs.Accepted.{no_class}
 use Rattle.pz_env_joined.proofs.Levels.{at_place, processes_joined, processes_closed, levels_joined, levels_stand, env_place, env_instance, env_class_at, wires_are_same, apart_names}
-use Rattle.pz_env_joined.proofs.Rules.{Laws, same_rules, no_env, same_wires}
-use Rattle.pz_env_joined.proofs.EnvironmentPorts.{env_variables}
+use Rattle.pz_env_joined.proofs.Rules.{Laws, same_rules, no_env}
+use Rattle.pz_env_joined.proofs.EnvironmentPorts.{env_variables, env_ports}
 use Rattle.pz_env_joined.proofs.EnvironmentBody.{env_body, env_init}
 use Rattle.pz_env_joined.proofs.EnvironmentWires.{to_driven, to_closed}
 
@@ -59,7 +58,8 @@ still_there (y ∷ xs) ys (suc i) x at = still_there xs ys i x at
 
 -- what is listed in levels stands there
 module _ (P : Address → Type 0) (a : ModelTree) where
-  both_there : (cs ds : List Channel) → AllByRecursion (λ c. P c.place) cs → AllByRecursion (λ c. P c.place) ds → AllByRecursion (λ c. P c.place) (cs ++ ds)
+  both_there : (cs ds : List Channel) → AllByRecursion (λ c. P c.place) cs → AllByRecursion (λ c. P c.place) ds
+      → AllByRecursion (λ c. P c.place) (cs ++ ds)
   both_there [] ds one other = other
   both_there (c ∷ cs) ds one other = (one.0, both_there cs ds one.1 other)
 
@@ -67,7 +67,8 @@ module _ (P : Address → Type 0) (a : ModelTree) where
   in_ending p holds k [] = tt
   in_ending p holds k (h ∷ hs) = by (is_joined a p h) (in_ending p holds (suc k) hs)
     where
-      by : (b : Bool) → AllByRecursion (λ c. P c.place) (ending a p (suc k) hs) → AllByRecursion (λ c. P c.place) ((if b then [] else channel p k ∷ []) ++ ending a p (suc k) hs)
+      by : (b : Bool) → AllByRecursion (λ c. P c.place) (ending a p (suc k) hs)
+          → AllByRecursion (λ c. P c.place) ((if b then [] else channel p k ∷ []) ++ ending a p (suc k) hs)
       by true rest = rest
       by false rest = (holds, rest)
 
@@ -84,6 +85,8 @@ one_more m script fits accepted =
       class = env_named m lines none;
       processes = processes_closed m fits lines none ∙ ap (λ (ps : List Address). ps ++ env_place m fits lines none ∷ []) (processes_joined m fits lines);
       is_of = env_class_at m fits lines none;
+      variables = env_variables m lines;
+      ports = env_ports m lines;
       wires = wires_are_same m fits lines none (apart_names m script accepted);
     }
 
@@ -162,9 +165,10 @@ module _ (laws : Laws) (m : ModelTree) (script : List Entry) (limits : Limits) (
         port = end_number lines;
         body = ap (λ (c : ℕ). process_method_body n c method_name 0 0) class ∙ env_body m script few;
         some_method = omega (arith, methods_there);
-        wires = λ x w among.
-            (to_driven m script fits accepted few without limits (processes j) behind (one_more m script fits accepted).wires x w among,
-            to_closed m script fits accepted few without limits (processes j) behind (one_more m script fits accepted).wires x w);
+        wires = λ x w among. (
+          to_driven m script fits accepted few without limits (processes j) behind (one_more m script fits accepted).wires x w among,
+          to_closed m script fits accepted few without limits (processes j) behind (one_more m script fits accepted).wires x w,
+        );
         paths = path_is;
         path = own_path;
         wire_names = wire_is;

@@ -1,6 +1,6 @@
 -- The one method of the environment, with numbers in place of names; how it starts, and the value of its one
 -- variable.
-use Rattle.std.proofs.Common.{◌≡◌, refl, sym, ap, ◌∙◌, ℕ, zero, suc, ◌+◌, ◌<◌, ◌^◌, Bool, true, false, List, [], ◌∷◌, map, length, replicate, Option, Some, None, arith}
+use Rattle.std.proofs.Common.{◌≡◌, refl, sym, ap, ◌∙◌, ℕ, zero, suc, ◌<◌, ◌^◌, List, [], ◌∷◌, map, length, replicate, Option, Some, None}
 use Rattle.std.specs.Prelude.{option_map, unwrap_or}
 use Rattle.std.specs.Option.{option_map_or, option_and_then}
 use Rattle.std.specs.List.{Contains}
@@ -8,18 +8,15 @@ use Rattle.pz_syntax.specs.declared.names.Id.{Id}
 use Rattle.pz_syntax.specs.declared.tokens.Pos.{Pos}
 use Rattle.pz_syntax.specs.Expressions as expression
 use Rattle.pz_syntax.specs.Expressions.{none, more, left_out, written}
-use Rattle.pz_syntax.specs.Statements.{Statements, send, receive, call, no_statements, then}
-use Rattle.pz_syntax.specs.declared.clusters.Instance.{Instance}
-use Rattle.pz_syntax.specs.Classes.{DeclTree, process_class, ModelTree}
+use Rattle.pz_syntax.specs.Statements.{send, receive, call, then}
+use Rattle.pz_syntax.specs.Classes.{DeclTree, ModelTree}
 use Rattle.pz_value.specs.declared.value.Value.{Value}
-use Rattle.pz_value.specs.declared.value.Value.TheVariants.{Nil}
 use Rattle.pz_classes_code.specs.declared.slot.Slot.{Slot}
 use Rattle.pz_classes_code.specs.declared.slot.Slot.TheVariants.{Shared}
 use Rattle.pz_classes_code.specs.Resolution.{Scope, unknown, port_of, slots_of, resolved_all, resolved_part, resolved_statement, resolved_statements}
 use Rattle.pz_classes.specs.declared.method_id.Counts.TheVariants.{Process}
-use Rattle.pz_classes.specs.Numbers.{declaration, class}
-use Rattle.pz_classes.specs.Ancestors.{ancestors}
-use Rattle.pz_classes.specs.Members.{variables, ports, spelled}
+use Rattle.pz_classes.specs.Numbers.{class}
+use Rattle.pz_classes.specs.Members.{ports, spelled}
 use Rattle.pz_classes.specs.Methods.{Signature, nearest}
 use Rattle.pz_classes.specs.Bodies.{BodyTree, process_body, place_in, scope_of}
 use Rattle.pz_classes.specs.MethodBodies.{own_methods, first_body, own_body, process_method_body}
@@ -34,7 +31,7 @@ use Rattle.pz_env_tree.specs.Names as names
 use Rattle.pz_env_tree.specs.EnvironmentClass.{first_place, named, unless_none, environment_class}
 use Rattle.pz_env_tree.specs.EnvironmentClass as tree
 use Rattle.pz_env_tree.specs.ClosedTree.{closed_by}
-use Rattle.pz_env_joined.specs.Environments.{literals, arguments, exchange, waiting, statements}
+use Rattle.pz_env_mimics.specs.Environments.{literals, arguments, exchange, waiting, statements}
 use Rattle.pz_env_joined.proofs.Members.{first_in, later_in}
 use Rattle.pz_env_joined.proofs.Closing.{env_class, env_declared}
 use Rattle.pz_env_joined.proofs.Firsts.{has_first, end_is}
@@ -73,11 +70,13 @@ module _ (script : List Entry) (few : length script < 2 ^ 64) (classes : List �
   slots_are x zero = refl
   slots_are x (suc count) = ap (λ (slots : List Slot). Shared 0 ∷ slots) (slots_are x count)
 
-  into_are : (x : Line) (count : ℕ) → option_map (slots_of scope) (unless_none (replicate count (named_at x variable_name))) ≡ unless_none (replicate count (Shared 0))
+  into_are : (x : Line) (count : ℕ)
+      → option_map (slots_of scope) (unless_none (replicate count (named_at x variable_name))) ≡ unless_none (replicate count (Shared 0))
   into_are x zero = refl
   into_are x (suc count) = ap (λ (slots : List Slot). Some (Shared 0 ∷ slots)) (slots_are x count)
 
-  exchange_is : (x : Line) → Contains lines x → (t : Transfer) → resolved_statement scope (tree.exchange lines x t) ≡ exchange (end_number lines x) x t
+  exchange_is : (x : Line) → Contains lines x → (t : Transfer)
+      → resolved_statement scope (tree.exchange lines x t) ≡ exchange (end_number lines x) x t
   exchange_is x among (Send values) =
       ap (λ (port : ℕ). send (at_line x) port (named_at x x.entry.message) (resolved_part scope (tree.arguments (at_line x) values)) left_out) (port_is x among)
       ∙ ap (λ args. send (at_line x) (end_number lines x) (named_at x x.entry.message) args left_out) (arguments_are (at_line x) values)
@@ -85,18 +84,19 @@ module _ (script : List Entry) (few : length script < 2 ^ 64) (classes : List �
       ap (λ (port : ℕ). receive (at_line x) port (named_at x x.entry.message) (option_map (slots_of scope) (unless_none (replicate count (named_at x variable_name)))) None left_out) (port_is x among)
       ∙ ap (λ into. receive (at_line x) (end_number lines x) (named_at x x.entry.message) into None left_out) (into_are x count)
 
-  statements_are : (xs : List Line) → ((x : Line) → Contains xs x → Contains lines x) → resolved_statements scope (tree.statements lines xs) ≡ statements (end_number lines) xs
+  statements_are : (xs : List Line) → ((x : Line) → Contains xs x → Contains lines x)
+      → resolved_statements scope (tree.statements lines xs) ≡ statements (end_number lines) xs
   statements_are [] among = refl
   statements_are (x ∷ xs) among =
       ap (λ t. (then) (waiting x) ((then) t (resolved_statements scope (tree.statements lines xs)))) (exchange_is x (among x (first_in x xs)) x.entry.transfer)
       ∙ ap (λ ts. (then) (waiting x) ((then) (exchange (end_number lines x) x x.entry.transfer) ts)) (statements_are xs (λ y at. among y (later_in x xs y at)))
 
   pub body_is : resolved_statements (record {
-      locals = place_in [];
-      shared = place_in (variable_name ∷ []);
-      ports = place_in (spelled (map (names.port_of (lines_of script)) (first_mentions (lines_of script))));
-      classes = classes;
-    }) (tree.statements (lines_of script) (lines_of script)) ≡ statements (end_number (lines_of script)) (lines_of script)
+    locals = place_in [];
+    shared = place_in (variable_name ∷ []);
+    ports = place_in (spelled (map (names.port_of (lines_of script)) (first_mentions (lines_of script))));
+    classes = classes;
+  }) (tree.statements (lines_of script) (lines_of script)) ≡ statements (end_number (lines_of script)) (lines_of script)
   body_is = statements_are lines (λ x at. at)
 
 module _ (m : ModelTree) (script : List Entry) where
@@ -109,7 +109,8 @@ module _ (m : ModelTree) (script : List Entry) where
   abbrev body_of : (List Id) → (List Id) → BodyTree
   body_of vs ps = process_body 0 (resolved_statements (scope_of n (spelled vs) (spelled ps) []) (tree.statements (lines_of script) (lines_of script)))
 
-  pub env_body : length script < 2 ^ 64 → process_method_body (closed_by m (lines_of script)) (env_class m (lines_of script)) method_name 0 0 ≡ Some (process_body 0 (statements (end_number (lines_of script)) (lines_of script)))
+  pub env_body : length script < 2 ^ 64
+      → process_method_body (closed_by m (lines_of script)) (env_class m (lines_of script)) method_name 0 0 ≡ Some (process_body 0 (statements (end_number (lines_of script)) (lines_of script)))
   env_body few =
       let s : Signature = record { name = method_name; counts = Process 0 0 } in
       ap (nearest (own_body n s)) (env_line m (lines_of script))

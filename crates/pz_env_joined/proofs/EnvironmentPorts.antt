@@ -1,28 +1,25 @@
 -- The ports of the environment: one for each end, at the number of the end.
-use Rattle.std.proofs.Common.{◌≡◌, ◌≢◌, refl, sym, ap, ◌∙◌, ℕ, zero, suc, ◌+◌, ◌<◌, ◌≤◌, ◌^◌, Bool, true, false, not, ◌&&◌, List, [], ◌∷◌, ◌++◌, map, length, drop, Option, Some, None, slice_get, arith}
-use Rattle.std.specs.Prelude.{if◌then◌else◌, codes}
-use Rattle.std.specs.Fmt.{decimal}
-use Rattle.std.specs.List.{Contains, filter}
-use Rattle.std.specs.Option.{option_map, option_map_or, option_and_then, unwrap_or}
+use Rattle.std.proofs.Common.{◌≡◌, refl, sym, ap, ◌∙◌, ℕ, zero, suc, ◌+◌, ◌<◌, ◌≤◌, ◌^◌, Bool, true, false, not, List, [], ◌∷◌, map, length, drop, Option, Some, None, slice_get, arith}
+use Rattle.std.specs.List.{filter}
+use Rattle.std.specs.Option.{option_map, option_map_or, option_and_then}
 use Rattle.std.specs.Str.{bytes_eq}
 use Rattle.std.proofs.lemmas.Fmt.{decimal_injective}
 use Rattle.std.proofs.lemmas.Option.{slice_get-map, slice_get_within}
 use Rattle.std.proofs.lemmas.Slice.Eq.{bytes_eq-Decides}
 use Rattle.pz_syntax.specs.declared.names.Id.{Id}
 use Rattle.pz_syntax.specs.Classes.{DeclTree, process_class, ModelTree}
-use Rattle.pz_classes.specs.Numbers.{declaration}
 use Rattle.pz_classes.specs.Ancestors.{parent_of, parent, followed, ancestors}
 use Rattle.pz_classes.specs.Members.{own_variables, own_ports, from_root, variables, ports, spelled}
 use Rattle.pz_classes.specs.Bodies.{place_from, place_in}
 use Rattle.pz_env_script.specs.declared.entry.Entry.{Entry}
 use Rattle.pz_env_rules.specs.Environment.{Line, lines_from, lines_of}
-use Rattle.pz_env_rules.specs.Ends.{is_same_end, first_mentions, IsEnd}
+use Rattle.pz_env_rules.specs.Ends.{is_same_end, first_mentions}
 use Rattle.pz_env_tree.specs.Names.{variable_name, end_number, port_name, port_of}
 use Rattle.pz_env_tree.specs.EnvironmentClass.{named, environment_class}
 use Rattle.pz_env_tree.specs.ClosedTree.{closed_by}
 use Rattle.pz_env_joined.proofs.Accepted.{not_true}
 use Rattle.pz_env_joined.proofs.Closing.{env_class, env_declared}
-use Rattle.pz_env_joined.proofs.Firsts.{same_itself, has_first, end_is}
+use Rattle.pz_env_joined.proofs.Firsts.{same_itself, end_is}
 
 -- Names of ports
 
@@ -51,7 +48,8 @@ as_many_lines : (n : ℕ) (es : List Entry) → length (lines_from n es) ≡ len
 as_many_lines n [] = refl
 as_many_lines n (e ∷ es) = ap suc (as_many_lines (suc n) es)
 
-pub number_low : (script : List Entry) → length script < 2 ^ 64 → (k : ℕ) (f : Line) → slice_get (first_mentions (lines_of script)) k ≡ Some f → k < 2 ^ 64
+pub number_low : (script : List Entry) → length script < 2 ^ 64 → (k : ℕ) (f : Line)
+    → slice_get (first_mentions (lines_of script)) k ≡ Some f → k < 2 ^ 64
 number_low script few k f at =
     let low = slice_get_within (first_mentions (lines_of script)) k f at in
     let one = few_firsts (lines_of script) in
@@ -63,27 +61,32 @@ number_low script few k f at =
 pub number_of_first : (lines : List Line) (k : ℕ) (f : Line) → slice_get (first_mentions lines) k ≡ Some f → end_number lines f ≡ k
 number_of_first lines k f at = end_is lines f k (record { first = f; there = at; same = same_itself f })
 
-pub port_there : (lines : List Line) (k : ℕ) (f : Line) → slice_get (first_mentions lines) k ≡ Some f → slice_get (spelled (map (port_of lines) (first_mentions lines))) k ≡ Some (port_name k)
+pub port_there : (lines : List Line) (k : ℕ) (f : Line) → slice_get (first_mentions lines) k ≡ Some f
+    → slice_get (spelled (map (port_of lines) (first_mentions lines))) k ≡ Some (port_name k)
 port_there lines k f at =
     slice_get-map (λ (x : Id). x.name) (map (port_of lines) (first_mentions lines)) k
     ∙ ap (option_map (λ (x : Id). x.name)) (slice_get-map (port_of lines) (first_mentions lines) k ∙ ap (option_map (port_of lines)) at)
     ∙ ap (λ (i : ℕ). Some (port_name i)) (number_of_first lines k f at)
 
 -- and no other has the name
-port_back : (lines : List Line) (k : ℕ) (name : List ℕ) → slice_get (spelled (map (port_of lines) (first_mentions lines))) k ≡ Some name → (f : Line) × (slice_get (first_mentions lines) k ≡ Some f)
+port_back : (lines : List Line) (k : ℕ) (name : List ℕ)
+    → slice_get (spelled (map (port_of lines) (first_mentions lines))) k ≡ Some name
+    → (f : Line) × (slice_get (first_mentions lines) k ≡ Some f)
 port_back lines k name at = by (slice_get (first_mentions lines) k) refl
   where
     by : (o : Option Line) → slice_get (first_mentions lines) k ≡ o → (f : Line) × (slice_get (first_mentions lines) k ≡ Some f)
     by (Some f) is = (f, is)
     by None is =
         let wrong : None ≡ Some name =
-            ap (λ (o : Option Line). option_map (λ (x : Id). x.name) (option_map (port_of lines) o)) (sym is)
-            ∙ sym (slice_get-map (λ (x : Id). x.name) (map (port_of lines) (first_mentions lines)) k ∙ ap (option_map (λ (x : Id). x.name)) (slice_get-map (port_of lines) (first_mentions lines) k))
-            ∙ at
+        ap (λ (o : Option Line). option_map (λ (x : Id). x.name) (option_map (port_of lines) o)) (sym is)
+        ∙ sym (slice_get-map (λ (x : Id). x.name) (map (port_of lines) (first_mentions lines)) k ∙ ap (option_map (λ (x : Id). x.name)) (slice_get-map (port_of lines) (first_mentions lines) k))
+        ∙ at
         in
         cc
 
-placed : (n : ℕ) (names : List (List ℕ)) (k : ℕ) (name : List ℕ) → slice_get names k ≡ Some name → ((i : ℕ) (other : List ℕ) → i < k → slice_get names i ≡ Some other → bytes_eq name other ≡ false) → place_from n names name ≡ Some (n + k)
+placed : (n : ℕ) (names : List (List ℕ)) (k : ℕ) (name : List ℕ) → slice_get names k ≡ Some name
+    → ((i : ℕ) (other : List ℕ) → i < k → slice_get names i ≡ Some other → bytes_eq name other ≡ false)
+    → place_from n names name ≡ Some (n + k)
 placed n [] k name at before = cc
 placed n (x ∷ xs) zero name at before =
     let eq : x ≡ name = cc in
@@ -94,13 +97,17 @@ placed n (x ∷ xs) (suc k) name at before =
     let number : suc n + k ≡ n + suc k = omega arith in
     rw (before 0 x (omega arith) refl) (placed (suc n) xs k name at (λ i other low there. before (suc i) other (omega (arith, low)) there) ∙ ap Some number)
 
-pub port_placed : (script : List Entry) → length script < 2 ^ 64 → (k : ℕ) (f : Line) → slice_get (first_mentions (lines_of script)) k ≡ Some f → place_in (spelled (map (port_of (lines_of script)) (first_mentions (lines_of script)))) (port_name k) ≡ Some k
+pub port_placed : (script : List Entry) → length script < 2 ^ 64 → (k : ℕ) (f : Line)
+    → slice_get (first_mentions (lines_of script)) k ≡ Some f
+    → place_in (spelled (map (port_of (lines_of script)) (first_mentions (lines_of script)))) (port_name k) ≡ Some k
 port_placed script few k f at =
     let lines : List Line = lines_of script in
     let none : 0 + k ≡ k = omega arith in
     placed 0 (spelled (map (port_of lines) (first_mentions lines))) k (port_name k) (port_there lines k f at) before ∙ ap Some none
   where
-    before : (i : ℕ) (other : List ℕ) → i < k → slice_get (spelled (map (port_of (lines_of script)) (first_mentions (lines_of script)))) i ≡ Some other → bytes_eq (port_name k) other ≡ false
+    before : (i : ℕ) (other : List ℕ) → i < k
+        → slice_get (spelled (map (port_of (lines_of script)) (first_mentions (lines_of script)))) i ≡ Some other
+        → bytes_eq (port_name k) other ≡ false
     before i other low there =
         let back = port_back (lines_of script) i other there in
         let is : Some (port_name i) ≡ Some other = sym (port_there (lines_of script) i back.0 back.1) ∙ there in

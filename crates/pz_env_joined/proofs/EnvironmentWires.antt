@@ -1,10 +1,9 @@
 -- The wire of a port of the environment is that of the end in the driven system.
-use Rattle.std.proofs.Common.{◌≡◌, ◌⊎◌, inl, inr, refl, sym, ap, ◌∙◌, subst, ℕ, zero, suc, ◌+◌, ◌<◌, ◌≤◌, ◌^◌, Bool, true, false, ◌&&◌, ◌||◌, List, [], ◌∷◌, ◌++◌, map, length, Option, Some, None, slice_get, arith}
-use Rattle.std.specs.Prelude.{IsTrue, ◌↔◌}
+use Rattle.std.proofs.Common.{◌≡◌, ◌⊎◌, inl, inr, refl, sym, ap, ◌∙◌, ℕ, zero, suc, ◌+◌, ◌<◌, ◌^◌, Bool, true, false, ◌&&◌, ◌||◌, List, [], ◌∷◌, ◌++◌, map, length, Some, None, slice_get, arith}
 use Rattle.std.specs.List.{Contains}
 use Rattle.std.specs.Option.{option_map}
 use Rattle.std.specs.Str.{bytes_eq}
-use Rattle.std.proofs.lemmas.Option.{slice_get-map, slice_get_within}
+use Rattle.std.proofs.lemmas.Option.{slice_get-map}
 use Rattle.std.proofs.lemmas.Slice.Eq.{bytes_eq-Decides}
 use Rattle.pz_syntax.specs.declared.clusters.Instance.{Instance}
 use Rattle.pz_syntax.specs.declared.clusters.Channel.{Channel as Written}
@@ -15,33 +14,34 @@ use Rattle.pz_classes.specs.SoundSystem.{SystemFits}
 use Rattle.pz_bind_levels.specs.Places.{Address}
 use Rattle.pz_bind_levels.specs.Wires.{Channel, channel}
 use Rattle.pz_bind.specs.Nest.{class_at, instance_at, channels_at, processes}
-use Rattle.pz_bind.specs.Connections.{PortEnd, end, names_inner, IsIn, is_in, Joined, joined as joins, Leads, itself, outwards, Reaches}
+use Rattle.pz_bind.specs.Connections.{PortEnd, end, names_inner, IsIn, is_in, Joined, joined as joins, Leads, itself, outwards}
 use Rattle.pz_bind.specs.Wires.{wires, HasWire}
 use Rattle.pz_rules.specs.declared.limits.Limits.{Limits}
 use Rattle.pz_rules.specs.Ports.{IsWire}
 use Rattle.pz_env_script.specs.declared.entry.Entry.{Entry}
 use Rattle.pz_env_rules.specs.Environment.{Line, lines_of}
-use Rattle.pz_env_rules.specs.Ends.{first_mentions, IsEnd}
+use Rattle.pz_env_rules.specs.Ends.{first_mentions}
 use Rattle.pz_env_rules.specs.Joining.{joined, driving}
 use Rattle.pz_env_rules.specs.Driven.{IsWireOf}
 use Rattle.pz_env_tree.specs.Names.{class_name, instance_name, end_number, port_name, port_of}
 use Rattle.pz_env_tree.specs.ClosedTree.{environment, channel_of, closed_by}
 use Rattle.pz_env_tree.specs.Refusals.{IsFirstRefused}
-use Rattle.pz_env_joined.proofs.Places.{got_first}
 use Rattle.pz_env_joined.proofs.Numbered.{got_later}
-use Rattle.pz_env_joined.proofs.Closing.{closed_channels, env_class}
+use Rattle.pz_env_joined.proofs.Closing.{closed_channels}
 use Rattle.pz_env_joined.proofs.Firsts.{first_is_line, has_first, end_is}
 use Rattle.pz_env_joined.proofs.Accepted.{no_line, no_channel, not_true}
 use Rattle.pz_env_joined.proofs.Levels.{env_place, env_instance, env_class_at}
 use Rattle.pz_env_joined.proofs.EnvironmentPorts.{one_port, number_low, number_of_first, port_there, env_ports}
 
 -- a place behind the first of two lists
-behind_first : {A : Type 0} (xs ys : List A) (k : ℕ) (x : A) → slice_get (xs ++ ys) k ≡ Some x → (slice_get xs k ≡ Some x) ⊎ ((r : ℕ) × (k ≡ length xs + r) × (slice_get ys r ≡ Some x))
+behind_first : {A : Type 0} (xs ys : List A) (k : ℕ) (x : A) → slice_get (xs ++ ys) k ≡ Some x
+    → (slice_get xs k ≡ Some x) ⊎ ((r : ℕ) × (k ≡ length xs + r) × (slice_get ys r ≡ Some x))
 behind_first [] ys k x at = inr (k, omega arith, at)
 behind_first (y ∷ xs) ys zero x at = inl at
 behind_first (y ∷ xs) ys (suc k) x at = by (behind_first xs ys k x at)
   where
-    by : (slice_get xs k ≡ Some x) ⊎ ((r : ℕ) × (k ≡ length xs + r) × (slice_get ys r ≡ Some x)) → (slice_get (y ∷ xs) (suc k) ≡ Some x) ⊎ ((r : ℕ) × (suc k ≡ length (y ∷ xs) + r) × (slice_get ys r ≡ Some x))
+    by : (slice_get xs k ≡ Some x) ⊎ ((r : ℕ) × (k ≡ length xs + r) × (slice_get ys r ≡ Some x))
+        → (slice_get (y ∷ xs) (suc k) ≡ Some x) ⊎ ((r : ℕ) × (suc k ≡ length (y ∷ xs) + r) × (slice_get ys r ≡ Some x))
     by (inl there) = inl there
     by (inr (r, eq, there)) = inr (r, omega (arith, eq), there)
 
@@ -77,10 +77,11 @@ module _ (m : ModelTree) (script : List Entry) (fits : SystemFits m) (accepted :
   named k f at = ap (λ ps. slice_get (spelled ps) k) ports_are ∙ port_there lines k f at
 
   -- the channel of an end has the environment's port of that number, and no other
-  one_of : (k r : ℕ) (f g : Line) → slice_get firsts k ≡ Some f → slice_get firsts r ≡ Some g → names_inner instance_name (port_name k) (channel_of lines g) ≡ true → k ≡ r
+  one_of : (k r : ℕ) (f g : Line) → slice_get firsts k ≡ Some f → slice_get firsts r ≡ Some g
+      → names_inner instance_name (port_name k) (channel_of lines g) ≡ true → k ≡ r
   one_of k r f g at there is =
       let other : bytes_eq instance_name g.entry.instance ≡ false =
-          not_true (bytes_eq instance_name g.entry.instance) (λ same. no_line m script accepted g (first_is_line lines r g there) (sym ((bytes_eq-Decides instance_name g.entry.instance).0 same)))
+      not_true (bytes_eq instance_name g.entry.instance) (λ same. no_line m script accepted g (first_is_line lines r g there) (sym ((bytes_eq-Decides instance_name g.entry.instance).0 same)))
       in
       let left : (bytes_eq (port_name k) (port_name (end_number lines g)) || false) ≡ true = ap (λ (b : Bool). (b && bytes_eq (port_name k) g.entry.port) || (bytes_eq (port_name k) (port_name (end_number lines g)) || false)) (sym other) ∙ is in
       let same : port_name k ≡ port_name r = (bytes_eq-Decides (port_name k) (port_name (end_number lines g))).0 (first_true (bytes_eq (port_name k) (port_name (end_number lines g))) left) ∙ ap port_name (number_of_first lines r g there) in
@@ -90,7 +91,8 @@ module _ (m : ModelTree) (script : List Entry) (fits : SystemFits m) (accepted :
       first_true true h = refl
       first_true false h = h
 
-  channel_is : (k q : ℕ) (f : Line) (h : Written) → slice_get firsts k ≡ Some f → slice_get (channels_at n []) q ≡ Some h → names_inner instance_name (port_name k) h ≡ true → q ≡ own + k
+  channel_is : (k q : ℕ) (f : Line) (h : Written) → slice_get firsts k ≡ Some f → slice_get (channels_at n []) q ≡ Some h
+      → names_inner instance_name (port_name k) h ≡ true → q ≡ own + k
   channel_is k q f h at there is = by (behind_first (channels_at m []) (map (channel_of lines) firsts) q h (ap (λ hs. slice_get hs q) (sym (closed_channels m lines fits)) ∙ there))
     where
       by : (slice_get (channels_at m []) q ≡ Some h) ⊎ ((r : ℕ) × (q ≡ own + r) × (slice_get (map (channel_of lines) firsts) r ≡ Some h)) → q ≡ own + k
@@ -101,7 +103,8 @@ module _ (m : ModelTree) (script : List Entry) (fits : SystemFits m) (accepted :
           omega (arith, eq, same)
 
   -- which channel the port is in
-  in_channel : (k : ℕ) (f : Line) (e : PortEnd) (c : Channel) → slice_get firsts k ≡ Some f → IsIn n e c → e.place ≡ place → e.port ≡ port_name k → c ≡ channel [] (own + k)
+  in_channel : (k : ℕ) (f : Line) (e : PortEnd) (c : Channel) → slice_get firsts k ≡ Some f → IsIn n e c → e.place ≡ place
+      → e.port ≡ port_name k → c ≡ channel [] (own + k)
   in_channel k f _ _ at (is_in up i q x h port instance there names) eq same =
       let outer : up ≡ [] = cc in
       let number : i ∷ [] ≡ place = cc in
@@ -110,7 +113,7 @@ module _ (m : ModelTree) (script : List Entry) (fits : SystemFits m) (accepted :
       let is_env : x ≡ environment = cc in
       let in_system : slice_get (channels_at n []) q ≡ Some h = ap (λ (p : Address). slice_get (channels_at n p) q) (sym outer) ∙ there in
       let of_env : names_inner instance_name (port_name k) h ≡ true =
-          ap (λ (y : Instance). names_inner y.name.name (port_name k) h) (sym is_env) ∙ ap (λ (p : List ℕ). names_inner x.name.name p h) (sym same) ∙ names
+      ap (λ (y : Instance). names_inner y.name.name (port_name k) h) (sym is_env) ∙ ap (λ (p : List ℕ). names_inner x.name.name p h) (sym same) ∙ names
       in
       let q_is : q ≡ own + k = channel_is k q f h at in_system of_env in
       ap (λ (p : Address). channel p q) outer ∙ ap (channel []) q_is
@@ -133,7 +136,8 @@ module _ (m : ModelTree) (script : List Entry) (fits : SystemFits m) (accepted :
       never : (c d : Channel) → Joined n c d → c ≡ channel [] k → ⊥
       never _ _ (joins p q h port d at outer inner) same = no_end (end p port) d inner (ap (λ (c : Channel). c.place) same)
 
-  own_wire : (same_wires : wires (joined m lines) ≡ wires n) (k w : ℕ) (f : Line) → slice_get firsts k ≡ Some f → slice_get (wires (joined m lines)) w ≡ Some (channel [] (own + k)) → HasWire n (end place (port_name k)) w
+  own_wire : (same_wires : wires (joined m lines) ≡ wires n) (k w : ℕ) (f : Line) → slice_get firsts k ≡ Some f
+      → slice_get (wires (joined m lines)) w ≡ Some (channel [] (own + k)) → HasWire n (end place (port_name k)) w
   own_wire same_wires k w f at there = record {
     last = channel [] (own + k);
     reached = record { first = channel [] (own + k); starts = starts; leads = itself (channel [] (own + k)) };
@@ -176,9 +180,9 @@ module _ (m : ModelTree) (script : List Entry) (fits : SystemFits m) (accepted :
         let number : end_number lines x ≡ k = end_is lines x k first.1 in
         let at_place : place ≡ is.place = last_is others place is.place (ap (λ (ps : List Address). slice_get ps (length others)) (sym behind) ∙ is.is_process) in
         let name_there : slice_get (spelled (ports n (class_at n place))) k ≡ Some is.name =
-            ap (λ (p : Address). slice_get (spelled (ports n (class_at n p))) k) at_place
-            ∙ ap (slice_get (spelled (ports n (class_at n is.place)))) (sym number)
-            ∙ is.named
+        ap (λ (p : Address). slice_get (spelled (ports n (class_at n p))) k) at_place
+        ∙ ap (slice_get (spelled (ports n (class_at n is.place)))) (sym number)
+        ∙ is.named
         in
         let both : Some is.name ≡ Some (port_name k) = sym name_there ∙ named k f first.1.there in
         let name_is : is.name ≡ port_name k = cc in

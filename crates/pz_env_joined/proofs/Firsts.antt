@@ -1,6 +1,5 @@
 -- The lines that name an end first: each end has one, at the number of the end.
-use Rattle.std.proofs.Common.{◌≡◌, refl, sym, ap, ◌∙◌, ℕ, zero, suc, ◌+◌, ◌<◌, ◌≤◌, Bool, true, false, not, ◌&&◌, List, [], ◌∷◌, length, map, Option, Some, None, slice_get, arith}
-use Rattle.std.specs.Prelude.{cond}
+use Rattle.std.proofs.Common.{◌≡◌, refl, sym, ap, ◌∙◌, ℕ, zero, suc, Bool, true, false, not, ◌&&◌, List, [], ◌∷◌, Some, slice_get, arith}
 use Rattle.std.specs.List.{Contains, AllByRecursion, filter, position_or_len}
 use Rattle.std.specs.Str.{bytes_eq}
 use Rattle.std.proofs.lemmas.Slice.Eq.{bytes_eq-Decides}
@@ -38,7 +37,8 @@ same_through x y z one other = let s = same_of x y one in let t = same_of y z ot
 
 -- What is left of a list
 
-filter_keeps : (p : Line → Bool) (xs : List Line) (k : ℕ) (x : Line) → slice_get xs k ≡ Some x → p x ≡ true → (j : ℕ) × (slice_get (filter p xs) j ≡ Some x)
+filter_keeps : (p : Line → Bool) (xs : List Line) (k : ℕ) (x : Line) → slice_get xs k ≡ Some x → p x ≡ true
+    → (j : ℕ) × (slice_get (filter p xs) j ≡ Some x)
 filter_keeps p [] k x at passes = cc
 filter_keeps p (y ∷ ys) zero x at passes = let eq : y ≡ x = cc in let does : p y ≡ true = ap p eq ∙ passes in (0, rw does at)
 filter_keeps p (y ∷ ys) (suc k) x at passes = by (p y) refl (filter_keeps p ys k x at passes)
@@ -51,7 +51,9 @@ filter_had : (p : Line → Bool) (xs : List Line) (k : ℕ) (x : Line) → slice
 filter_had p [] k x at = cc
 filter_had p (y ∷ ys) k x at = by (p y) refl k at (filter_had p ys)
   where
-    by : (b : Bool) → p y ≡ b → (k : ℕ) → slice_get (filter p (y ∷ ys)) k ≡ Some x → ((k : ℕ) (z : Line) → slice_get (filter p ys) k ≡ Some z → (j : ℕ) × (slice_get ys j ≡ Some z)) → (j : ℕ) × (slice_get (y ∷ ys) j ≡ Some x)
+    by : (b : Bool) → p y ≡ b → (k : ℕ) → slice_get (filter p (y ∷ ys)) k ≡ Some x
+        → ((k : ℕ) (z : Line) → slice_get (filter p ys) k ≡ Some z → (j : ℕ) × (slice_get ys j ≡ Some z))
+        → (j : ℕ) × (slice_get (y ∷ ys) j ≡ Some x)
     by true does zero there rest = (0, rw does at there)
     by true does (suc k) there rest = let r = rest k x (rw does at there) in (suc r.0, r.1)
     by false does k there rest = let r = rest k x (rw does at there) in (suc r.0, r.1)
@@ -81,7 +83,9 @@ filter_passes : (x : Line) (xs : List Line) → AllByRecursion (λ y. is_same_en
 filter_passes x [] = tt
 filter_passes x (y ∷ ys) = by (is_same_end x y) refl (filter_passes x ys)
   where
-    by : (b : Bool) → is_same_end x y ≡ b → AllByRecursion (λ z. is_same_end x z ≡ false) (filter (λ z. not (is_same_end x z)) ys) → AllByRecursion (λ z. is_same_end x z ≡ false) (filter (λ z. not (is_same_end x z)) (y ∷ ys))
+    by : (b : Bool) → is_same_end x y ≡ b
+        → AllByRecursion (λ z. is_same_end x z ≡ false) (filter (λ z. not (is_same_end x z)) ys)
+        → AllByRecursion (λ z. is_same_end x z ≡ false) (filter (λ z. not (is_same_end x z)) (y ∷ ys))
     by true does rest = rw does rest
     by false does rest = rw does (does, rest)
 
@@ -113,7 +117,8 @@ has_first (y ∷ ys) x (suc i, low, is) = further (has_first ys x (i, omega (ari
             (suc kept.0, record { first = e.first; there = kept.1; same = e.same })
 
 -- the place of an end
-place_is : (xs : List Line) (x first : Line) (k : ℕ) → AreApart xs → slice_get xs k ≡ Some first → is_same_end first x ≡ true → position_or_len (λ y. is_same_end y x) xs ≡ k
+place_is : (xs : List Line) (x first : Line) (k : ℕ) → AreApart xs → slice_get xs k ≡ Some first → is_same_end first x ≡ true
+    → position_or_len (λ y. is_same_end y x) xs ≡ k
 place_is [] x first k apart at same = cc
 place_is (y ∷ ys) x first zero apart at same = let eq : y ≡ first = cc in let does : is_same_end y x ≡ true = ap (λ (z : Line). is_same_end z x) eq ∙ same in rw does refl
 place_is (y ∷ ys) x first (suc k) apart at same = by (is_same_end y x) refl (place_is ys x first k apart.1 at same)

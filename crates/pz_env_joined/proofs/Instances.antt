@@ -1,5 +1,5 @@
 -- Instances have the classes that they had.
-use Rattle.std.proofs.Common.{◌≡◌, refl, sym, ap, ◌∙◌, ℕ, zero, suc, ◌<◌, Bool, true, false, not, ◌&&◌, ◌||◌, List, [], ◌∷◌, ◌++◌, length, Option, Some, None, slice_get, arith}
+use Rattle.std.proofs.Common.{◌≡◌, refl, sym, ap, ◌∙◌, ℕ, Bool, true, false, not, ◌&&◌, ◌||◌, List, [], Option, Some, None, arith}
 use Rattle.std.specs.Prelude.{if◌then◌else◌}
 use Rattle.std.specs.List.{Contains}
 use Rattle.std.specs.Option.{option_map_or, option_and_then, unwrap_or}
@@ -12,7 +12,7 @@ use Rattle.pz_classes.specs.NameRules.{has_instances}
 use Rattle.pz_classes.specs.Instances.{instances, instance_class}
 use Rattle.pz_classes.specs.SoundSystem.{SystemFits}
 use Rattle.pz_bind.specs.Nest.{is_system, instances_in, class_of}
-use Rattle.pz_env_joined.proofs.Alike.{Alike, same, systems, Grown, Became, became, IsDeclared, of_declared}
+use Rattle.pz_env_joined.proofs.Alike.{Alike, same, systems, Grown, became, of_declared}
 use Rattle.pz_env_joined.proofs.Lineage.{class_declared}
 
 -- a class that is no system
@@ -36,7 +36,8 @@ class_is m name k is = by_tests (is_unsupported name) (has_instances m name) ref
     by_tests false true left_out has = record { supported = left_out; has = has; class = rw (left_out, has) at is }
 
 -- of a sort
-sort_is : (m : ModelTree) (sort : DeclTree → Bool) (name : List ℕ) (k : ℕ) → class m name ≡ Some k → is_declared_as sort m name ≡ option_map_or sort (declaration m k) false
+sort_is : (m : ModelTree) (sort : DeclTree → Bool) (name : List ℕ) (k : ℕ) → class m name ≡ Some k
+    → is_declared_as sort m name ≡ option_map_or sort (declaration m k) false
 sort_is m sort name k is = ap (λ (o : Option ℕ). option_map_or sort (option_and_then (declaration m) o) false) is
 
 not_system : (d : DeclTree) → is_process d || is_cluster d ≡ true → is_system d ≡ false
@@ -63,7 +64,8 @@ class_inner m name k is =
     }
 
 module _ (m n : ModelTree) (grown : Grown m n) where
-  sort_same : (sort : DeclTree → Bool) → ((s t : _) → sort (system s) ≡ sort (system t)) → (name : List ℕ) (k : ℕ) → class m name ≡ Some k → is_declared_as sort n name ≡ is_declared_as sort m name
+  sort_same : (sort : DeclTree → Bool) → ((s t : _) → sort (system s) ≡ sort (system t)) → (name : List ℕ) (k : ℕ)
+      → class m name ≡ Some k → is_declared_as sort n name ≡ is_declared_as sort m name
   sort_same sort still name k is =
       sort_is n sort name k (grown.classes name k is)
       ∙ sym (of_declared sort false still m n grown k (class_declared m name k is))
@@ -73,9 +75,9 @@ module _ (m n : ModelTree) (grown : Grown m n) where
   instance_class_kept name k is =
       let at = class_is m name k is in
       let has : has_instances n name ≡ true =
-          ap (λ (b : Bool). not (is_primitive name) && (b || is_declared_as is_cluster n name)) (sort_same is_process (λ s t. refl) name k at.class)
-          ∙ ap (λ (b : Bool). not (is_primitive name) && (is_declared_as is_process m name || b)) (sort_same is_cluster (λ s t. refl) name k at.class)
-          ∙ at.has
+      ap (λ (b : Bool). not (is_primitive name) && (b || is_declared_as is_cluster n name)) (sort_same is_process (λ s t. refl) name k at.class)
+      ∙ ap (λ (b : Bool). not (is_primitive name) && (is_declared_as is_process m name || b)) (sort_same is_cluster (λ s t. refl) name k at.class)
+      ∙ at.has
       in
       ap (λ (b : Bool). if b then None else if has_instances n name then class n name else None) at.supported
       ∙ ap (λ (b : Bool). if b then class n name else None) has
@@ -86,7 +88,8 @@ module _ (m n : ModelTree) (grown : Grown m n) where
   inner_stays _ _ inner (systems s t) = cc
 
   -- a class that is no system has the parts that it had
-  pub inner_same : {A : Type 0} (part : DeclTree → List A) (c : ℕ) → IsInner m c → option_map_or part (declaration m c) [] ≡ option_map_or part (declaration n c) []
+  pub inner_same : {A : Type 0} (part : DeclTree → List A) (c : ℕ) → IsInner m c
+      → option_map_or part (declaration m c) [] ≡ option_map_or part (declaration n c) []
   inner_same part c at =
       let now = became m n grown c at.decl at.is in
       ap (λ (o : Option DeclTree). option_map_or part o []) at.is
@@ -99,14 +102,16 @@ module _ (m n : ModelTree) (grown : Grown m n) where
 
 -- the class of an instance of a sound model
 module _ (m : ModelTree) (fits : SystemFits m) where
-  pub instance_known : (c : ℕ) (d : DeclTree) (x : Instance) → declaration m c ≡ Some d → Contains (instances d) x → (k : ℕ) × (instance_class m x.class.name ≡ Some k)
+  pub instance_known : (c : ℕ) (d : DeclTree) (x : Instance) → declaration m c ≡ Some d → Contains (instances d) x
+      → (k : ℕ) × (instance_class m x.class.name ≡ Some k)
   instance_known c d x is at = let fit = (fits.parts_fit c d is).instances_fit x at in (fit.class, fit.is_class)
 
   -- an instance in a level
   pub in_level : (c : ℕ) (x : Instance) → Contains (instances_in m c) x → (d : DeclTree) × (declaration m c ≡ Some d) × Contains (instances d) x
   in_level c x at = by (declaration m c) refl at
     where
-      by : (o : Option DeclTree) → declaration m c ≡ o → Contains (option_map_or instances o []) x → (d : DeclTree) × (declaration m c ≡ Some d) × Contains (instances d) x
+      by : (o : Option DeclTree) → declaration m c ≡ o → Contains (option_map_or instances o []) x
+          → (d : DeclTree) × (declaration m c ≡ Some d) × Contains (instances d) x
       by None is (k, low, there) = absurd (omega (arith, low))
       by (Some d) is there = (d, is, there)
 

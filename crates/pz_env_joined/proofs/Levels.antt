@@ -1,8 +1,8 @@
 -- The levels, the processes and the wires of the closed model are those of the one with the further channels,
 -- and one process more.
-use Rattle.std.proofs.Common.{◌≡◌, refl, sym, ap, ◌∙◌, ◌⊎◌, subst, ℕ, zero, suc, ◌+◌, ◌<◌, Bool, true, false, ◌&&◌, ◌||◌, List, [], ◌∷◌, ◌++◌, length, map, Option, Some, None, slice_get, arith}
+use Rattle.std.proofs.Common.{◌≡◌, refl, sym, ap, ◌∙◌, subst, ℕ, zero, suc, Bool, true, false, ◌||◌, List, [], ◌∷◌, ◌++◌, length, map, Option, Some, None, slice_get, arith}
 use Rattle.std.specs.Prelude.{if◌then◌else◌}
-use Rattle.std.specs.List.{AllByRecursion, filter, list_any}
+use Rattle.std.specs.List.{AllByRecursion, filter}
 use Rattle.std.specs.Option.{option_map_or, option_and_then, unwrap_or}
 use Rattle.std.specs.Str.{bytes_eq}
 use Rattle.std.proofs.lemmas.List.{length-append, length-map}
@@ -18,23 +18,22 @@ use Rattle.pz_classes.specs.SoundSystem.{SystemFits}
 use Rattle.pz_bind_levels.specs.Places.{Address}
 use Rattle.pz_bind.specs.Nest.{system_class, instances_in, channels_in, class_of, class_at, instances_at, instance_at, channels_at, each_instance, with_inside, inside, places, is_level, is_process_at, levels, processes}
 use Rattle.pz_bind.specs.Names.{name_at}
-use Rattle.pz_bind.specs.Connections.{names_inner, names_outer}
+use Rattle.pz_bind.specs.Connections.{names_inner}
 use Rattle.pz_bind.specs.Wires.{wires}
 use Rattle.pz_env_script.specs.declared.entry.Entry.{Entry}
-use Rattle.pz_env_rules.specs.Environment.{Line, lines_of}
+use Rattle.pz_env_rules.specs.Environment.{Line}
 use Rattle.pz_env_rules.specs.Ends.{first_mentions, further_channels, channel_for}
 use Rattle.pz_env_rules.specs.Joining.{decl_with, joined}
-use Rattle.pz_env_tree.specs.Names.{class_name, instance_name, port_of}
+use Rattle.pz_env_tree.specs.Names.{class_name, instance_name}
 use Rattle.pz_env_tree.specs.EnvironmentClass.{environment_class}
 use Rattle.pz_env_tree.specs.ClosedTree.{environment, channel_of, closed_decl, closed_by}
 use Rattle.pz_env_tree.specs.Refusals.{IsFirstRefused}
-use Rattle.pz_env_joined.proofs.Alike.{Grown}
 use Rattle.pz_env_joined.proofs.Instances.{inner_same}
-use Rattle.pz_env_joined.proofs.Places.{Stands, the_system, inside_of, got_in, system_declared, inner_at, all_stand, class_at_same, added, levels_grow, processes_grow}
+use Rattle.pz_env_joined.proofs.Places.{Stands, inside_of, got_in, system_declared, inner_at, all_stand, class_at_same, added, levels_grow, processes_grow}
 use Rattle.pz_env_joined.proofs.Standing.{instance_same, name_same}
 use Rattle.pz_env_joined.proofs.Wiring.{AreLike, none, next, like_behind, SameWiring, wires_same}
 use Rattle.pz_env_joined.proofs.Closing.{append_nil, grown_joined, grown_closed, joined_instances, closed_instances, joined_channels, closed_channels, env_class, env_declared, env_named}
-use Rattle.pz_env_joined.proofs.Accepted.{not_true, no_class, no_instance}
+use Rattle.pz_env_joined.proofs.Accepted.{not_true, no_instance}
 
 filter_all : {A : Type 0} (P : A → Type 0) (f : A → Bool) (xs : List A) → AllByRecursion P xs → AllByRecursion P (filter f xs)
 filter_all P f [] all = tt
@@ -53,7 +52,8 @@ outer_stands : (m : ModelTree) (i : ℕ) (up : Address) → Stands m (i ∷ up) 
 outer_stands m _ _ (inside_of up i x s at) = s
 
 -- the further channels name the same ends of an instance of the system, with the environment's end and without
-alike_channels : (name : List ℕ) → bytes_eq name instance_name ≡ false → (lines xs : List Line) → AreLike name (map channel_for xs) (map (channel_of lines) xs)
+alike_channels : (name : List ℕ) → bytes_eq name instance_name ≡ false → (lines xs : List Line)
+    → AreLike name (map channel_for xs) (map (channel_of lines) xs)
 alike_channels name apart lines [] = none
 alike_channels name apart lines (x ∷ xs) = next (channel_for x) (channel_of lines x) (map channel_for xs) (map (channel_of lines) xs) inner (λ port. refl) (alike_channels name apart lines xs)
   where
@@ -108,8 +108,8 @@ module _ (m : ModelTree) (fits : SystemFits m) (lines : List Line) where
     env_is_process =
         let named = env_named m lines no_env in
         let sort : option_map_or is_process (option_and_then (declaration n) (class n class_name)) false ≡ true =
-            ap (λ (o : Option ℕ). option_map_or is_process (option_and_then (declaration n) o) false) named
-            ∙ ap (λ (o : Option DeclTree). option_map_or is_process o false) (env_declared m lines)
+        ap (λ (o : Option ℕ). option_map_or is_process (option_and_then (declaration n) o) false) named
+        ∙ ap (λ (o : Option DeclTree). option_map_or is_process o false) (env_declared m lines)
         in
         ap (λ (b : Bool). if b || option_map_or is_cluster (option_and_then (declaration n) (class n class_name)) false then class n class_name else None) sort
         ∙ named
@@ -137,7 +137,8 @@ module _ (m : ModelTree) (fits : SystemFits m) (lines : List Line) where
     pub env_class_at : class_at n env_place ≡ env_class m lines
     env_class_at = ap (λ (o : Option Instance). option_map_or (class_of n) o 0) env_instance ∙ env_class_is
 
-    env_sort : (sort : DeclTree → Bool) → option_map_or sort (declaration n (class_at n env_place)) false ≡ sort (process_class (environment_class lines))
+    env_sort : (sort : DeclTree → Bool)
+        → option_map_or sort (declaration n (class_at n env_place)) false ≡ sort (process_class (environment_class lines))
     env_sort sort = ap (λ (c : ℕ). option_map_or sort (declaration n c) false) env_class_at ∙ ap (λ (o : Option DeclTree). option_map_or sort o false) (env_declared m lines)
 
     one_passes : (f : Address → Bool) (p : Address) → f p ≡ true → filter f (p ∷ []) ≡ p ∷ []
@@ -164,12 +165,12 @@ module _ (m : ModelTree) (fits : SystemFits m) (lines : List Line) where
       inside_alike i up s =
           let inner = inner_at m fits i up s in
           let before : channels_in m (class_at m (i ∷ up)) ≡ channels_at j (i ∷ up) =
-              inner_same m j (grown_joined m lines) channels (class_at m (i ∷ up)) inner
-              ∙ ap (channels_in j) (class_at_same m j fits (grown_joined m lines) [] (joined_instances m lines fits) (i ∷ up) s)
+          inner_same m j (grown_joined m lines) channels (class_at m (i ∷ up)) inner
+          ∙ ap (channels_in j) (class_at_same m j fits (grown_joined m lines) [] (joined_instances m lines fits) (i ∷ up) s)
           in
           let behind : channels_in m (class_at m (i ∷ up)) ≡ channels_at n (i ∷ up) =
-              inner_same m n (grown_closed m lines) channels (class_at m (i ∷ up)) inner
-              ∙ ap (channels_in n) (class_at_same m n fits (grown_closed m lines) (environment ∷ []) (closed_instances m lines fits) (i ∷ up) s)
+          inner_same m n (grown_closed m lines) channels (class_at m (i ∷ up)) inner
+          ∙ ap (channels_in n) (class_at_same m n fits (grown_closed m lines) (environment ∷ []) (closed_instances m lines fits) (i ∷ up) s)
           in
           sym before ∙ behind
 
@@ -202,7 +203,8 @@ module _ (m : ModelTree) (fits : SystemFits m) (lines : List Line) where
       wires_are_same = wires_same (Stands m) j n wiring (sym levels_joined ∙ levels_closed) (subst (AllByRecursion (Stands m)) levels_joined levels_stand)
 
 -- no instance of the system has the environment's name
-pub apart_names : (m : ModelTree) (script : List Entry) → ((line : ℕ) → IsFirstRefused m script line → ⊥) → (i : ℕ) → Stands m (i ∷ []) → bytes_eq (name_at m [] i) instance_name ≡ false
+pub apart_names : (m : ModelTree) (script : List Entry) → ((line : ℕ) → IsFirstRefused m script line → ⊥) → (i : ℕ)
+    → Stands m (i ∷ []) → bytes_eq (name_at m [] i) instance_name ≡ false
 apart_names m script accepted _ (inside_of _ i x s at) =
     not_true (bytes_eq (name_at m [] i) instance_name) (λ is.
-        no_instance m script accepted x (got_in (instances_at m []) i x at) (ap (λ (o : Option Instance). option_map_or (λ y. y.name.name) o []) (sym at) ∙ (bytes_eq-Decides (name_at m [] i) instance_name).0 is))
+    no_instance m script accepted x (got_in (instances_at m []) i x at) (ap (λ (o : Option Instance). option_map_or (λ y. y.name.name) o []) (sym at) ∙ (bytes_eq-Decides (name_at m [] i) instance_name).0 is))

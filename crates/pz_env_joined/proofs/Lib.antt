@@ -1,22 +1,22 @@
-pub mod Alike
-pub mod Lineage
-pub mod Resolving
-pub mod Members
-pub mod Bodies
-pub mod Methods
-pub mod Instances
-pub mod Depth
-pub mod Places
-pub mod Standing
-pub mod Wiring
-pub mod Numbered
-pub mod Calls
-pub mod Firsts
-pub mod Closing
-pub mod Accepted
-pub mod Levels
-pub mod Rules
-pub mod EnvironmentPorts
-pub mod EnvironmentBody
-pub mod EnvironmentWires
-pub mod Environment
+mod Alike
+mod Lineage
+mod Resolving
+mod Members
+mod Bodies
+mod Methods
+mod Instances
+mod Depth
+mod Places
+mod Standing
+mod Wiring
+mod Numbered
+mod Calls
+mod Firsts
+mod Closing
+mod Accepted
+mod Levels
+mod Rules
+mod EnvironmentPorts
+mod EnvironmentBody
+mod EnvironmentWires
+mod Environment

@@ -2,7 +2,6 @@
 -- the same, and further steps come to nothing new.
 use Rattle.std.proofs.Common.{◌≡◌, refl, sym, ap, ◌∙◌, ◌⊎◌, inl, inr, subst, ℕ, zero, suc, ◌+◌, ◌<◌, ◌≤◌, Bool, true, false, not, ◌&&◌, List, [], ◌∷◌, length, Option, Some, None, slice_get, arith}
 use Rattle.std.specs.Prelude.{if◌then◌else◌, slice_index_or, IsTrue}
-use Rattle.std.specs.List.{Contains}
 use Rattle.std.specs.Option.{option_map_or, option_and_then}
 use Rattle.pz_syntax.specs.declared.names.Id.{Id}
 use Rattle.pz_syntax.specs.Classes.{DeclTree, data_class, process_class, cluster_class, system, ModelTree}
@@ -11,23 +10,27 @@ use Rattle.pz_classes_code.specs.ReservedNames.{is_primitive, is_unsupported, is
 use Rattle.pz_classes_lineage.specs.Reached.{Reaches, itself, further}
 use Rattle.pz_classes.specs.Numbers.{declared_name, is_named, declaration, first_named, class}
 use Rattle.pz_classes.specs.Ancestors.{extended, parent_named, parent_of, parent, followed, ancestors}
-use Rattle.pz_classes.specs.Kinds.{is_data, is_declared_as}
+use Rattle.pz_classes.specs.Kinds.{is_data}
 use Rattle.pz_classes.specs.Reached.{AncestorsAreReached}
-use Rattle.pz_classes.specs.Violations.{same_sort, is_of_sort, may_extend, breaks_c2, c2, c3}
+use Rattle.pz_classes.specs.Violations.{same_sort, is_of_sort, may_extend, c2, c3}
 use Rattle.pz_classes.specs.Soundness.{IsSound}
-use Rattle.pz_env_joined.proofs.Alike.{Alike, Both, old, nothing, new, Grown, of_alike}
+use Rattle.pz_env_joined.proofs.Alike.{Both, old, nothing, new, Grown, of_alike}
 
 -- a name that stands for a class of some sort is that of a class
-pub sort_known : (f : ℕ → Option DeclTree) (sort : DeclTree → Bool) (o : Option ℕ) → option_map_or sort (option_and_then f o) false ≡ true → (k : ℕ) × (o ≡ Some k)
+pub sort_known : (f : ℕ → Option DeclTree) (sort : DeclTree → Bool) (o : Option ℕ)
+    → option_map_or sort (option_and_then f o) false ≡ true → (k : ℕ) × (o ≡ Some k)
 sort_known f sort None is = cc
 sort_known f sort (Some k) is = (k, refl)
 
 -- a class that has a name is declared
-named_declared : (ds : List DeclTree) (n : ℕ) (name : List ℕ) (k : ℕ) → first_named ds n name ≡ Some k → (i : ℕ) × (d : DeclTree) × (k ≡ n + i) × (slice_get ds i ≡ Some d)
+named_declared : (ds : List DeclTree) (n : ℕ) (name : List ℕ) (k : ℕ) → first_named ds n name ≡ Some k
+    → (i : ℕ) × (d : DeclTree) × (k ≡ n + i) × (slice_get ds i ≡ Some d)
 named_declared [] n name k is = cc
 named_declared (d ∷ ds) n name k is = by (is_named name d) refl (named_declared ds (suc n) name k)
   where
-    by : (b : Bool) → is_named name d ≡ b → (first_named ds (suc n) name ≡ Some k → (i : ℕ) × (e : DeclTree) × (k ≡ suc n + i) × (slice_get ds i ≡ Some e)) → (i : ℕ) × (e : DeclTree) × (k ≡ n + i) × (slice_get (d ∷ ds) i ≡ Some e)
+    by : (b : Bool) → is_named name d ≡ b
+        → (first_named ds (suc n) name ≡ Some k → (i : ℕ) × (e : DeclTree) × (k ≡ suc n + i) × (slice_get ds i ≡ Some e))
+        → (i : ℕ) × (e : DeclTree) × (k ≡ n + i) × (slice_get (d ∷ ds) i ≡ Some e)
     by true does rest = let here : Some n ≡ Some k = rw does at is in let eq : n ≡ k = cc in (0, d, omega arith, refl)
     by false does rest = let r = rest (rw does at is) in let eq : k ≡ suc n + r.0 = r.2 in (suc r.0, r.1, omega arith, r.3)
 
@@ -36,9 +39,6 @@ class_declared m name k is = by (named_declared m.decls 1 name k is)
   where
     by : (i : ℕ) × (d : DeclTree) × (k ≡ 1 + i) × (slice_get m.decls i ≡ Some d) → (d : DeclTree) × (declaration m k ≡ Some d)
     by (i, d, eq, there) = let number : k ≡ suc i = omega (arith, eq) in (d, rw number there)
-
-same_some : (p q : ℕ) (o : Option ℕ) → o ≡ Some p → o ≡ Some q → p ≡ q
-same_some p q o one other = cc
 
 module _ (up : ℕ → Option ℕ) where
   -- where so many steps lead
@@ -62,7 +62,8 @@ module _ (up : ℕ → Option ℕ) where
   ends_or_goes zero c = inr (c, refl)
   ends_or_goes (suc n) c = by (up c) refl (ends_or_goes n)
     where
-      by : (o : Option ℕ) → up c ≡ o → ((p : ℕ) → Ends n p ⊎ ((y : ℕ) × (after n p ≡ Some y))) → Ends (suc n) c ⊎ ((y : ℕ) × (option_and_then (after n) o ≡ Some y))
+      by : (o : Option ℕ) → up c ≡ o → ((p : ℕ) → Ends n p ⊎ ((y : ℕ) × (after n p ≡ Some y)))
+          → Ends (suc n) c ⊎ ((y : ℕ) × (option_and_then (after n) o ≡ Some y))
       by None is rest = inl stops
         where
           stops : (k : ℕ) → suc n ≤ k → followed up k c ≡ followed up (suc n) c
@@ -87,7 +88,8 @@ module _ (up : ℕ → Option ℕ) where
   stands_at (suc n) c zero y low is = ap Some is
   stands_at (suc n) c (suc i) y low is = by (up c) low is (λ p. stands_at n p i y)
     where
-      by : (o : Option ℕ) → suc i < suc (length (option_map_or (followed up n) o [])) → slice_index_or (c ∷ option_map_or (followed up n) o []) (suc i) y ≡ y
+      by : (o : Option ℕ) → suc i < suc (length (option_map_or (followed up n) o []))
+          → slice_index_or (c ∷ option_map_or (followed up n) o []) (suc i) y ≡ y
           → ((p : ℕ) → i < length (followed up n p) → slice_index_or (followed up n p) i y ≡ y → after i p ≡ Some y) → option_and_then (after i) o ≡ Some y
       by None below at rest = absurd (omega (arith, below))
       by (Some p) below at rest = rest p (omega (arith, below)) at
@@ -116,7 +118,8 @@ module _ (up : ℕ → Option ℕ) where
       by (Some p) eq at = record { next = p; is_parent = eq; back = after_reaches n p y at }
   longer_goes_round (suc i) (suc n) c y one other low = by (up c) one other (λ p. longer_goes_round i n p y)
     where
-      by : (o : Option ℕ) → option_and_then (after i) o ≡ Some y → option_and_then (after n) o ≡ Some y → ((p : ℕ) → after i p ≡ Some y → after n p ≡ Some y → i < n → GoesRoundAt y) → GoesRoundAt y
+      by : (o : Option ℕ) → option_and_then (after i) o ≡ Some y → option_and_then (after n) o ≡ Some y
+          → ((p : ℕ) → after i p ≡ Some y → after n p ≡ Some y → i < n → GoesRoundAt y) → GoesRoundAt y
       by None at more rest = cc
       by (Some p) at more rest = rest p at more (omega (arith, low))
 
@@ -127,7 +130,8 @@ not_both false false is never = absurd (never refl)
 
 module _ (m : ModelTree) (sound : IsSound m) where
   -- a parent that is named is a class of the model, unless the name is reserved
-  parent_known : (c : ℕ) (d : DeclTree) (x : Id) → declaration m c ≡ Some d → extended d ≡ Some x → is_unsupported x.name ≡ false → is_primitive x.name ≡ false → (k : ℕ) × (class m x.name ≡ Some k)
+  parent_known : (c : ℕ) (d : DeclTree) (x : Id) → declaration m c ≡ Some d → extended d ≡ Some x → is_unsupported x.name ≡ false
+      → is_primitive x.name ≡ false → (k : ℕ) × (class m x.name ≡ Some k)
   parent_known c d x here is supported own =
       let may : may_extend m d x.name ≡ true = not_both (is_unsupported x.name) (may_extend m d x.name) supported (λ wrong. sound.classes (violation 2 x.pos) (c2 c d x here is wrong)) in
       let of_sort : is_of_sort m d x.name ≡ true = ap (λ (b : Bool). if b then is_data d && is_object x.name else is_of_sort m d x.name) (sym own) ∙ may in
@@ -151,7 +155,8 @@ module _ (m : ModelTree) (sound : IsSound m) where
   child : (c p : ℕ) → parent m c ≡ Some p → Child c p
   child c p is = by_decl (declaration m c) refl is
     where
-      by_name : (d : DeclTree) → declaration m c ≡ Some d → (o : Option Id) → extended d ≡ o → option_and_then (λ x. parent_named m x.name) o ≡ Some p → Child c p
+      by_name : (d : DeclTree) → declaration m c ≡ Some d → (o : Option Id) → extended d ≡ o
+          → option_and_then (λ x. parent_named m x.name) o ≡ Some p → Child c p
       by_name d here None ext up = cc
       by_name d here (Some x) ext up = by_tests (is_unsupported x.name) (is_primitive x.name) refl refl
         where
@@ -189,17 +194,20 @@ module _ (m : ModelTree) (sound : IsSound m) where
           let round = longer_goes_round (parent m) among.0 (suc (length m.decls)) c y (stands_at (parent m) (suc (length m.decls)) c among.0 y low among.2) way (omega (arith, low, most)) in
           absurd (flat reached y round.next round.is_parent round.back)
 
-      by_first : (y : ℕ) (o : Option ℕ) → parent m c ≡ o → after (parent m) (suc (length m.decls)) c ≡ Some y → followed (parent m) k c ≡ ancestors m c
+      by_first : (y : ℕ) (o : Option ℕ) → parent m c ≡ o → after (parent m) (suc (length m.decls)) c ≡ Some y
+          → followed (parent m) k c ≡ ancestors m c
       by_first y None is way = let never : None ≡ Some y = ap (option_and_then (after (parent m) (length m.decls))) (sym is) ∙ way in cc
       by_first y (Some p) is way = by_way y p is way
 
-      by : Ends (parent m) (suc (length m.decls)) c ⊎ ((y : ℕ) × (after (parent m) (suc (length m.decls)) c ≡ Some y)) → followed (parent m) k c ≡ ancestors m c
+      by : Ends (parent m) (suc (length m.decls)) c ⊎ ((y : ℕ) × (after (parent m) (suc (length m.decls)) c ≡ Some y))
+          → followed (parent m) k c ≡ ancestors m c
       by (inl ends) = ends k le
       by (inr goes) = by_first goes.0 (parent m c) refl goes.1
 
 -- In what has grown out of a sound model each class has the same parent
 module _ (m n : ModelTree) (sound : IsSound m) (grown : Grown m n) where
-  parent_named_same : (c : ℕ) (d : DeclTree) → declaration m c ≡ Some d → (o : Option Id) → extended d ≡ o → option_and_then (λ x. parent_named m x.name) o ≡ option_and_then (λ x. parent_named n x.name) o
+  parent_named_same : (c : ℕ) (d : DeclTree) → declaration m c ≡ Some d → (o : Option Id) → extended d ≡ o
+      → option_and_then (λ x. parent_named m x.name) o ≡ option_and_then (λ x. parent_named n x.name) o
   parent_named_same c d here None ext = refl
   parent_named_same c d here (Some x) ext = by_tests (is_unsupported x.name) (is_primitive x.name) refl refl
     where
@@ -222,7 +230,8 @@ module _ (m n : ModelTree) (sound : IsSound m) (grown : Grown m n) where
   followed_same zero c = refl
   followed_same (suc k) c = by (parent m c) (parent_same c) (followed_same k)
     where
-      by : (o : Option ℕ) → o ≡ parent n c → ((p : ℕ) → followed (parent m) k p ≡ followed (parent n) k p) → c ∷ option_map_or (followed (parent m) k) o [] ≡ c ∷ option_map_or (followed (parent n) k) (parent n c) []
+      by : (o : Option ℕ) → o ≡ parent n c → ((p : ℕ) → followed (parent m) k p ≡ followed (parent n) k p)
+          → c ∷ option_map_or (followed (parent m) k) o [] ≡ c ∷ option_map_or (followed (parent n) k) (parent n c) []
       by None is rest = ap (λ (o : Option ℕ). c ∷ option_map_or (followed (parent n) k) o []) is
       by (Some p) is rest = ap (λ (xs : List ℕ). c ∷ xs) (rest p) ∙ ap (λ (o : Option ℕ). c ∷ option_map_or (followed (parent n) k) o []) is
 

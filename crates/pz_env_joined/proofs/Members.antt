@@ -1,9 +1,9 @@
 -- What classes have of their ancestors is the same in what has grown out of a sound model: the fields of each
--- number, and of the classes that there were the variables, ports and parameters.
-use Rattle.std.proofs.Common.{◌≡◌, refl, sym, ap, ◌∙◌, subst, ℕ, zero, suc, ◌<◌, List, [], ◌∷◌, ◌++◌, length, Option, Some, None, arith}
+-- number, and of the classes that there were the variables and ports.
+use Rattle.std.proofs.Common.{◌≡◌, refl, ap, ◌∙◌, subst, ℕ, zero, suc, ◌<◌, List, [], ◌∷◌, ◌++◌, length, Option, Some, None, arith}
 use Rattle.std.specs.Prelude.{slice_index_or}
 use Rattle.std.specs.List.{Contains}
-use Rattle.std.specs.Option.{option_map_or}
+use Rattle.std.specs.Option.{option_map_or, option_or}
 use Rattle.pz_syntax.specs.declared.names.Id.{Id}
 use Rattle.pz_syntax.specs.declared.clusters.SystemDecl.{SystemDecl}
 use Rattle.pz_syntax.specs.Classes.{DeclTree, system, ModelTree}
@@ -11,8 +11,6 @@ use Rattle.pz_classes.specs.Numbers.{declaration}
 use Rattle.pz_classes.specs.Ancestors.{parent, followed, ancestors}
 use Rattle.pz_classes.specs.Members.{own_fields, own_variables, own_ports, from_root, fields, variables, ports}
 use Rattle.pz_classes.specs.Methods.{nearest}
-use Rattle.std.specs.Option.{option_or}
-use Rattle.pz_classes.specs.Instances.{own_parameters, parameters}
 use Rattle.pz_classes.specs.Reached.{AncestorsAreReached}
 use Rattle.pz_classes.specs.Soundness.{IsSound}
 use Rattle.pz_env_joined.proofs.Alike.{Grown, of_both, IsDeclared, of_declared}
@@ -26,7 +24,9 @@ module _ {A : Type 0} where
   later_in x xs y (k, low, is) = (suc k, omega (arith, low), is)
 
 -- what some classes have, where each has the same of its own
-pub from_root_same : (own : DeclTree → List Id) (m n : ModelTree) (line : List ℕ) → ((a : ℕ) → Contains line a → option_map_or own (declaration m a) [] ≡ option_map_or own (declaration n a) []) → from_root own m line ≡ from_root own n line
+pub from_root_same : (own : DeclTree → List Id) (m n : ModelTree) (line : List ℕ)
+    → ((a : ℕ) → Contains line a → option_map_or own (declaration m a) [] ≡ option_map_or own (declaration n a) [])
+    → from_root own m line ≡ from_root own n line
 from_root_same own m n [] each = refl
 from_root_same own m n (c ∷ line) each =
     ap (λ (xs : List Id). xs ++ option_map_or own (declaration m c) []) (from_root_same own m n line (λ a at. each a (later_in c line a at)))
@@ -45,7 +45,9 @@ module _ (m : ModelTree) (sound : IsSound m) where
   line_declared (suc k) c is a (zero, low, at) = subst (IsDeclared m) at is
   line_declared (suc k) c is a (suc i, low, at) = by (parent m c) refl (line_declared k) low at
     where
-      by : (o : Option ℕ) → parent m c ≡ o → ((p : ℕ) → IsDeclared m p → (b : ℕ) → Contains (followed (parent m) k p) b → IsDeclared m b) → suc i < suc (length (option_map_or (followed (parent m) k) o []))
+      by : (o : Option ℕ) → parent m c ≡ o
+          → ((p : ℕ) → IsDeclared m p → (b : ℕ) → Contains (followed (parent m) k p) b → IsDeclared m b)
+          → suc i < suc (length (option_map_or (followed (parent m) k) o []))
           → slice_index_or (c ∷ option_map_or (followed (parent m) k) o []) (suc i) a ≡ a → IsDeclared m a
       by None up rest below there = absurd (omega (arith, below))
       by (Some p) up rest below there = rest p (parent_declared m sound c p up) a (i, omega (arith, below), there)
@@ -59,7 +61,8 @@ module _ (m n : ModelTree) (reached : AncestorsAreReached) (sound : IsSound m) (
       from_root_same own_fields m n (ancestors m c) (λ a at. of_both own_fields [] (λ s t. refl) (λ p. refl) (declaration m a) (declaration n a) (grown.at a))
       ∙ ap (from_root own_fields n) (line_same c)
 
-  inherited_same : (own : DeclTree → List Id) → ((s t : SystemDecl) → own (system s) ≡ own (system t)) → (c : ℕ) → IsDeclared m c → from_root own m (ancestors m c) ≡ from_root own n (ancestors n c)
+  inherited_same : (own : DeclTree → List Id) → ((s t : SystemDecl) → own (system s) ≡ own (system t)) → (c : ℕ) → IsDeclared m c
+      → from_root own m (ancestors m c) ≡ from_root own n (ancestors n c)
   inherited_same own still c is =
       from_root_same own m n (ancestors m c) (λ a at. of_declared own [] still m n grown a (line_declared m sound (suc (length m.decls)) c is a at))
       ∙ ap (from_root own n) (line_same c)

@@ -1,25 +1,23 @@
 -- The method that a name and its counts mean has the same body, and a process starts with the same call.
 use Rattle.std.proofs.Common.{◌≡◌, refl, sym, ap, ◌∙◌, ℕ, suc, List, [], ◌∷◌, length, map, Option, Some, None}
-use Rattle.std.specs.List.{Contains}
 use Rattle.std.specs.Option.{unwrap_or, option_map, option_map_or, option_and_then}
-use Rattle.pz_syntax.specs.Classes.{DataMethodTree, StartTree, ProcessMethodTree, ProcessClassTree, DeclTree, data_class, process_class, cluster_class, system, ModelTree}
-use Rattle.pz_classes_code.specs.StepView.{Tree}
+use Rattle.pz_syntax.specs.Classes.{StartTree, ProcessMethodTree, DeclTree, data_class, process_class, cluster_class, system, ModelTree}
 use Rattle.pz_classes.specs.declared.method_id.Counts.TheVariants.{Data, Process}
 use Rattle.pz_classes.specs.Numbers.{declaration}
 use Rattle.pz_classes.specs.Ancestors.{ancestors}
-use Rattle.pz_classes.specs.Members.{grouped, section}
 use Rattle.pz_classes.specs.Methods.{Signature, data_signature, process_signature, nearest}
 use Rattle.pz_classes.specs.Soundness.{IsSound}
 use Rattle.pz_classes.specs.Reached.{AncestorsAreReached}
-use Rattle.pz_classes.specs.Bodies.{BodyTree, data_body, process_body, data_scope, process_scope, data_locals, process_locals}
+use Rattle.pz_classes.specs.Bodies.{data_body, process_body, data_scope, process_scope, data_locals, process_locals}
 use Rattle.pz_classes.specs.Starts.{own_start, start_call, own_call, init}
-use Rattle.pz_classes.specs.MethodBodies.{Method, data_method_in, process_method_in, own_methods, first_body, own_body, body_with, method_body, process_method_body}
-use Rattle.pz_env_joined.proofs.Alike.{Alike, same, systems, Both, old, nothing, new, Grown, Became, became, IsDeclared}
+use Rattle.pz_classes.specs.MethodBodies.{data_method_in, process_method_in, own_methods, first_body, own_body, body_with, method_body, process_method_body}
+use Rattle.pz_env_joined.proofs.Alike.{Alike, same, systems, Both, old, nothing, new, Grown, became, IsDeclared}
 use Rattle.pz_env_joined.proofs.Members.{nearest_same, line_declared, line_same}
 use Rattle.pz_env_joined.proofs.Bodies.{map_same, data_code_same, process_code_same, start_same}
 
 -- a method of a process class is none of a data class
-no_data_body : (scope : _) (name : List ℕ) (inputs : ℕ) (rs : List ProcessMethodTree) → first_body (record { name = name; counts = Data inputs }) (map (process_method_in scope) rs) ≡ None
+no_data_body : (scope : _) (name : List ℕ) (inputs : ℕ) (rs : List ProcessMethodTree)
+    → first_body (record { name = name; counts = Data inputs }) (map (process_method_in scope) rs) ≡ None
 no_data_body scope name inputs [] = refl
 no_data_body scope name inputs (r ∷ rs) = no_data_body scope name inputs rs
 
@@ -43,10 +41,12 @@ module _ (m n : ModelTree) (reached : AncestorsAreReached) (sound : IsSound m) (
       ∙ sym (ap (λ (o : Option DeclTree). first_body s (option_map_or (own_methods n c) o [])) now.there)
 
   -- of each number, for a method of a data class
-  own_data_body_same : (name : List ℕ) (inputs c : ℕ) → own_body m (record { name = name; counts = Data inputs }) c ≡ own_body n (record { name = name; counts = Data inputs }) c
+  own_data_body_same : (name : List ℕ) (inputs c : ℕ)
+      → own_body m (record { name = name; counts = Data inputs }) c ≡ own_body n (record { name = name; counts = Data inputs }) c
   own_data_body_same name inputs c = by (declaration m c) (declaration n c) refl (grown.at c)
     where
-      by : (o q : Option DeclTree) → declaration m c ≡ o → Both o q → first_body (record { name = name; counts = Data inputs }) (option_map_or (own_methods m c) o []) ≡ first_body (record { name = name; counts = Data inputs }) (option_map_or (own_methods n c) q [])
+      by : (o q : Option DeclTree) → declaration m c ≡ o → Both o q
+          → first_body (record { name = name; counts = Data inputs }) (option_map_or (own_methods m c) o []) ≡ first_body (record { name = name; counts = Data inputs }) (option_map_or (own_methods n c) q [])
       by _ _ is (old d e like) = ap (first_body (record { name = name; counts = Data inputs })) (methods_same c d e is like)
       by _ _ is nothing = refl
       by _ _ is (new p root) = sym (no_data_body (process_scope n c) name inputs (unwrap_or p.methods []))
@@ -62,10 +62,12 @@ module _ (m n : ModelTree) (reached : AncestorsAreReached) (sound : IsSound m) (
       nearest_same (own_body m s) (own_body n s) (ancestors m c) (λ a at. own_body_same s a (line_declared m sound (suc (length m.decls)) c is a at))
       ∙ ap (nearest (own_body n s)) (line_same m n reached sound grown c)
 
-  pub process_method_body_same : (c : ℕ) (name : List ℕ) (inputs outputs : ℕ) → IsDeclared m c → process_method_body m c name inputs outputs ≡ process_method_body n c name inputs outputs
+  pub process_method_body_same : (c : ℕ) (name : List ℕ) (inputs outputs : ℕ) → IsDeclared m c
+      → process_method_body m c name inputs outputs ≡ process_method_body n c name inputs outputs
   process_method_body_same c name inputs outputs is = body_same c (record { name = name; counts = Process inputs outputs }) is
 
-  call_same : (c : ℕ) (d e : DeclTree) → declaration m c ≡ Some d → Alike d e → option_map (start_call m c) (own_start d) ≡ option_map (start_call n c) (own_start e)
+  call_same : (c : ℕ) (d e : DeclTree) → declaration m c ≡ Some d → Alike d e
+      → option_map (start_call m c) (own_start d) ≡ option_map (start_call n c) (own_start e)
   call_same c _ _ is (systems s t) = refl
   call_same c _ _ is (same (data_class d)) = refl
   call_same c _ _ is (same (cluster_class d)) = refl

@@ -1,12 +1,11 @@
 -- The method that a name and its counts mean has a number where it has a body, and the body stands there.
 use Rattle.std.proofs.Common.{◌≡◌, refl, sym, ap, ◌∙◌, ℕ, zero, suc, ◌+◌, ◌-◌, Bool, true, false, List, [], ◌∷◌, ◌++◌, map, length, take, Option, Some, None, slice_get, arith}
-use Rattle.std.specs.Option.{option_map, option_map_or, option_or, unwrap_or}
+use Rattle.std.specs.Option.{option_map, option_or, unwrap_or}
 use Rattle.std.specs.List.{sum_by}
 use Rattle.std.proofs.lemmas.List.{length-map}
 use Rattle.std.proofs.lemmas.List.Sums.{sum_by-cons}
 use Rattle.pz_syntax.specs.Classes.{DeclTree, data_class, process_class, cluster_class, system, ModelTree}
 use Rattle.pz_classes.specs.declared.method_id.MethodId.{MethodId}
-use Rattle.pz_classes.specs.Numbers.{declaration}
 use Rattle.pz_classes.specs.Ancestors.{ancestors}
 use Rattle.pz_classes.specs.Methods.{Signature, signatures, data_signature, process_signature, same_signature, methods_before, first_with, method_id, own_method, nearest, method_with}
 use Rattle.pz_classes.specs.Bodies.{BodyTree, data_scope, process_scope, data_body_in, process_body_in, own_bodies, bodies_from, bodies}
@@ -49,7 +48,8 @@ module _ (m : ModelTree) where
   abbrev before : ℕ → List DeclTree → ℕ
   before i ds = sum_by (λ d. length (signatures d)) (take i ds)
 
-  there : (n i : ℕ) (ds : List DeclTree) (d : DeclTree) → slice_get ds i ≡ Some d → (k : ℕ) (b : BodyTree) → slice_get (own_bodies m (n + i) d) k ≡ Some b → slice_get (bodies_from m n ds) (before i ds + k) ≡ Some b
+  there : (n i : ℕ) (ds : List DeclTree) (d : DeclTree) → slice_get ds i ≡ Some d → (k : ℕ) (b : BodyTree)
+      → slice_get (own_bodies m (n + i) d) k ≡ Some b → slice_get (bodies_from m n ds) (before i ds + k) ≡ Some b
   there n i [] d is k b at = cc
   there n zero (e ∷ ds) d is k b at =
       let eq : e ≡ d = cc in
@@ -66,12 +66,14 @@ module _ (m : ModelTree) where
       ∙ got_later (own_bodies m n e) (bodies_from m (suc n) ds) (before i ds + k)
       ∙ there (suc n) i ds d is k b (ap (λ (c : ℕ). slice_get (own_bodies m c d) k) (sym number) ∙ at)
 
-  first_stands : (s : Signature) (n : ℕ) (xs : List Method) → ((k : ℕ) (b : BodyTree) → slice_get (map (λ x. x.body) xs) k ≡ Some b → slice_get (bodies m) (n + k) ≡ Some b)
+  first_stands : (s : Signature) (n : ℕ) (xs : List Method)
+      → ((k : ℕ) (b : BodyTree) → slice_get (map (λ x. x.body) xs) k ≡ Some b → slice_get (bodies m) (n + k) ≡ Some b)
       → Stands (bodies m) (option_map method_id (first_with n s (map (λ x. x.signature) xs))) (first_body s xs)
   first_stands s n [] each = neither
   first_stands s n (x ∷ xs) each = by (same_signature s x.signature) refl (first_stands s (suc n) xs (λ k b is. (let eq : suc n + k ≡ n + suc k = omega arith in ap (slice_get (bodies m)) eq ∙ each (suc k) b is)))
     where
-      by : (t : Bool) → same_signature s x.signature ≡ t → Stands (bodies m) (option_map method_id (first_with (suc n) s (map (λ y. y.signature) xs))) (first_body s xs)
+      by : (t : Bool) → same_signature s x.signature ≡ t
+          → Stands (bodies m) (option_map method_id (first_with (suc n) s (map (λ y. y.signature) xs))) (first_body s xs)
           → Stands (bodies m) (option_map method_id (first_with n s (map (λ y. y.signature) (x ∷ xs)))) (first_body s (x ∷ xs))
       by true is later = let eq : n ≡ n + 0 = omega arith in rw is (both n x.body (ap (slice_get (bodies m)) eq ∙ each 0 x.body refl))
       by false is later = rw is later
@@ -94,7 +96,8 @@ module _ (m : ModelTree) where
   nearest_stands s [] = neither
   nearest_stands s (c ∷ line) = by (own_method m s c) (own_body m s c) (own_stands s c) (nearest_stands s line)
     where
-      by : (o : Option MethodId) (p : Option BodyTree) → Stands (bodies m) o p → Stands (bodies m) (nearest (own_method m s) line) (nearest (own_body m s) line)
+      by : (o : Option MethodId) (p : Option BodyTree) → Stands (bodies m) o p
+          → Stands (bodies m) (nearest (own_method m s) line) (nearest (own_body m s) line)
           → Stands (bodies m) (option_or o (nearest (own_method m s) line)) (option_or p (nearest (own_body m s) line))
       by _ _ neither rest = rest
       by _ _ (both k b is) rest = both k b is
@@ -102,6 +105,7 @@ module _ (m : ModelTree) where
   pub has_body : (c : ℕ) (s : Signature) (b : BodyTree) → body_with m c s ≡ Some b → HasBody m c s
   has_body c s b is = by (method_with m c s) (body_with m c s) (nearest_stands s (ancestors m c)) refl is refl
     where
-      by : (o : Option MethodId) (p : Option BodyTree) → Stands (bodies m) o p → method_with m c s ≡ o → p ≡ Some b → body_with m c s ≡ p → HasBody m c s
+      by : (o : Option MethodId) (p : Option BodyTree) → Stands (bodies m) o p → method_with m c s ≡ o → p ≡ Some b
+          → body_with m c s ≡ p → HasBody m c s
       by _ _ neither found has eq = cc
       by _ _ (both k a at) found has eq = record { number = method_id k; found = found; body = a; is = eq; there = at }

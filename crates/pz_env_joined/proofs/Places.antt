@@ -1,9 +1,8 @@
 -- What stands in a system stands there in what has grown out of it, and behind it what is new.
-use Rattle.std.proofs.Common.{◌≡◌, refl, sym, ap, ◌∙◌, subst, ℕ, zero, suc, ◌+◌, ◌≤◌, Bool, true, false, List, [], ◌∷◌, ◌++◌, append_assoc, length, Option, Some, None, slice_get, arith}
+use Rattle.std.proofs.Common.{◌≡◌, refl, sym, ap, ◌∙◌, subst, ℕ, zero, suc, ◌+◌, Bool, true, false, List, [], ◌∷◌, ◌++◌, append_assoc, length, Option, Some, slice_get, arith}
 use Rattle.std.specs.List.{Contains, AllByRecursion, filter, flat_map}
-use Rattle.std.specs.Option.{option_map_or, unwrap_or}
+use Rattle.std.specs.Option.{option_map_or}
 use Rattle.std.proofs.lemmas.List.Elements.{filter-append}
-use Rattle.std.proofs.lemmas.Option.{slice_get_within}
 use Rattle.pz_syntax.specs.declared.clusters.Instance.{Instance}
 use Rattle.pz_syntax.specs.declared.clusters.SystemDecl.{SystemDecl}
 use Rattle.pz_syntax.specs.Classes.{DeclTree, data_class, process_class, cluster_class, system, ModelTree}
@@ -13,9 +12,9 @@ use Rattle.pz_classes.specs.Instances.{instances, instance_class}
 use Rattle.pz_classes.specs.SizeRules.{system_of}
 use Rattle.pz_classes.specs.SoundSystem.{SystemFits}
 use Rattle.pz_bind_levels.specs.Places.{Address}
-use Rattle.pz_bind.specs.Nest.{is_system, first_system, each_instance, system_class, instances_in, class_of, class_at, instances_at, with_inside, inside, places, is_level, is_process_at, levels, processes}
+use Rattle.pz_bind.specs.Nest.{first_system, each_instance, system_class, instances_in, class_of, class_at, instances_at, with_inside, inside, places, is_level, is_process_at, levels, processes}
 use Rattle.pz_env_joined.proofs.Alike.{Grown, IsDeclared, of_declared}
-use Rattle.pz_env_joined.proofs.Instances.{IsInner, class_inner, instance_class_kept, instances_same, instance_known, in_level, level_known, class_of_is}
+use Rattle.pz_env_joined.proofs.Instances.{IsInner, class_inner, instance_class_kept, instances_same, instance_known, level_known, class_of_is}
 use Rattle.pz_env_joined.proofs.Depth.{no_deeper}
 use Rattle.pz_env_joined.proofs.Members.{first_in, later_in}
 
@@ -30,7 +29,8 @@ got_first (y ∷ xs) ys zero x is = is
 got_first (y ∷ xs) ys (suc i) x is = got_first xs ys i x is
 
 -- the class of the system of a model
-system_found : (n : ℕ) (ds : List DeclTree) (s : SystemDecl) (rest : List SystemDecl) → flat_map system_of ds ≡ s ∷ rest → (i : ℕ) × (first_system n ds ≡ n + i) × (slice_get ds i ≡ Some (system s))
+system_found : (n : ℕ) (ds : List DeclTree) (s : SystemDecl) (rest : List SystemDecl) → flat_map system_of ds ≡ s ∷ rest
+    → (i : ℕ) × (first_system n ds ≡ n + i) × (slice_get ds i ≡ Some (system s))
 system_found n [] s rest is = cc
 system_found n (system t ∷ ds) s rest is = let eq : t ≡ s = cc in (0, omega arith, rw eq refl)
 system_found n (data_class c ∷ ds) s rest is = let r = system_found (suc n) ds s rest is in let at = r.1 in (suc r.0, omega (arith, at), r.2)
@@ -40,7 +40,8 @@ system_found n (cluster_class c ∷ ds) s rest is = let r = system_found (suc n)
 pub system_declared : (m : ModelTree) → SystemFits m → (s : SystemDecl) × (declaration m (system_class m) ≡ Some (system s))
 system_declared m fits = by (system_found 1 m.decls fits.one_system.the_system [] fits.one_system.only)
   where
-    by : (i : ℕ) × (system_class m ≡ 1 + i) × (slice_get m.decls i ≡ Some (system fits.one_system.the_system)) → (s : SystemDecl) × (declaration m (system_class m) ≡ Some (system s))
+    by : (i : ℕ) × (system_class m ≡ 1 + i) × (slice_get m.decls i ≡ Some (system fits.one_system.the_system))
+        → (s : SystemDecl) × (declaration m (system_class m) ≡ Some (system s))
     by (i, eq, there) = let number : system_class m ≡ suc i = omega (arith, eq) in (fits.one_system.the_system, ap (declaration m) number ∙ there)
 
 -- an instance stands there, in a level that stands
@@ -68,16 +69,20 @@ module _ (m : ModelTree) (fits : SystemFits m) where
   abbrev AreFrom : Address → ℕ → List Instance → Type 0
   AreFrom up i xs = (j : ℕ) (x : Instance) → slice_get xs j ≡ Some x → slice_get (instances_at m up) (i + j) ≡ Some x
 
-  each_stands : (k : ℕ) → ((c : ℕ) (up : Address) → Stands m up → class_at m up ≡ c → AllByRecursion (Stands m) (inside m k c up)) → (up : Address) → Stands m up
+  each_stands : (k : ℕ)
+      → ((c : ℕ) (up : Address) → Stands m up → class_at m up ≡ c → AllByRecursion (Stands m) (inside m k c up)) → (up : Address)
+      → Stands m up
       → (xs : List Instance) (i : ℕ) → AreFrom up i xs → AllByRecursion (Stands m) (each_instance (with_inside m (inside m k) up) i xs)
   each_stands k deeper up s [] i from = tt
   each_stands k deeper up s (x ∷ xs) i from =
       let eq : i + 0 ≡ i = omega arith in
       let at : slice_get (instances_at m up) i ≡ Some x = ap (slice_get (instances_at m up)) (sym eq) ∙ from 0 x refl in
-      let here = inside_of up i x s at in
-      (here, both_stand (inside m k (class_of m x) (i ∷ up)) (each_instance (with_inside m (inside m k) up) (suc i) xs)
-          (deeper (class_of m x) (i ∷ up) here (ap (λ (o : Option Instance). option_map_or (class_of m) o 0) at))
-          (each_stands k deeper up s xs (suc i) (λ j y is. (let step : suc i + j ≡ i + suc j = omega arith in ap (slice_get (instances_at m up)) step ∙ from (suc j) y is))))
+      let here = inside_of up i x s at in (
+        here,
+        both_stand (inside m k (class_of m x) (i ∷ up)) (each_instance (with_inside m (inside m k) up) (suc i) xs)
+            (deeper (class_of m x) (i ∷ up) here (ap (λ (o : Option Instance). option_map_or (class_of m) o 0) at))
+            (each_stands k deeper up s xs (suc i) (λ j y is. (let step : suc i + j ≡ i + suc j = omega arith in ap (slice_get (instances_at m up)) step ∙ from (suc j) y is))),
+      )
 
   stand_inside : (k c : ℕ) (up : Address) → Stands m up → class_at m up ≡ c → AllByRecursion (Stands m) (inside m k c up)
   stand_inside zero c up s is = tt
@@ -89,7 +94,8 @@ module _ (m : ModelTree) (fits : SystemFits m) where
   pub all_stand : AllByRecursion (Stands m) (places m)
   all_stand = (the_system, stand_inside (length m.decls) (system_class m) [] the_system refl)
 
-filter_same : {A : Type 0} (P : A → Type 0) (f g : A → Bool) → ((x : A) → P x → f x ≡ g x) → (xs : List A) → AllByRecursion P xs → filter f xs ≡ filter g xs
+filter_same : {A : Type 0} (P : A → Type 0) (f g : A → Bool) → ((x : A) → P x → f x ≡ g x) → (xs : List A) → AllByRecursion P xs
+    → filter f xs ≡ filter g xs
 filter_same P f g alike [] all = refl
 filter_same {A} P f g alike (x ∷ xs) all = by (f x) (g x) refl refl (alike x all.0) (filter_same P f g alike xs all.1)
   where
@@ -99,7 +105,8 @@ filter_same {A} P f g alike (x ∷ xs) all = by (f x) (g x) refl refl (alike x a
     by true false one other eq rest = let wrong : true ≡ false = sym one ∙ eq ∙ other in cc
     by false true one other eq rest = let wrong : false ≡ true = sym one ∙ eq ∙ other in cc
 
-each_append : {A : Type 0} (f : ℕ → Instance → List A) (i : ℕ) (xs ys : List Instance) → each_instance f i (xs ++ ys) ≡ each_instance f i xs ++ each_instance f (i + length xs) ys
+each_append : {A : Type 0} (f : ℕ → Instance → List A) (i : ℕ) (xs ys : List Instance)
+    → each_instance f i (xs ++ ys) ≡ each_instance f i xs ++ each_instance f (i + length xs) ys
 each_append f i [] ys = let eq : i ≡ i + 0 = omega arith in ap (λ (k : ℕ). each_instance f k ys) eq
 each_append {A} f i (x ∷ xs) ys =
     let eq : suc i + length xs ≡ i + suc (length xs) = omega arith in
@@ -111,7 +118,8 @@ module _ (m n : ModelTree) (fits : SystemFits m) (grown : Grown m n) (more : Lis
   class_of_same : (x : Instance) (k : ℕ) → instance_class m x.class.name ≡ Some k → class_of m x ≡ class_of n x
   class_of_same x k is = class_of_is m x k is ∙ sym (class_of_is n x k (instance_class_kept m n grown x.class.name k is))
 
-  kept_at : (up : Address) → Stands m up → class_at m up ≡ class_at n up → (i : ℕ) (x : Instance) → slice_get (instances_at m up) i ≡ Some x → slice_get (instances_at n up) i ≡ Some x
+  kept_at : (up : Address) → Stands m up → class_at m up ≡ class_at n up → (i : ℕ) (x : Instance)
+      → slice_get (instances_at m up) i ≡ Some x → slice_get (instances_at n up) i ≡ Some x
   kept_at _ the_system eq i x at = ap (λ (c : ℕ). slice_get (instances_in n c) i) (sym eq) ∙ ap (λ (xs : List Instance). slice_get xs i) there ∙ got_first (instances_in m (system_class m)) more i x at
   kept_at _ (inside_of up j y s is) eq i x at =
       ap (λ (c : ℕ). slice_get (instances_in n c) i) (sym eq)
@@ -127,12 +135,14 @@ module _ (m n : ModelTree) (fits : SystemFits m) (grown : Grown m n) (more : Lis
       ∙ sym (ap (λ (o : Option Instance). option_map_or (class_of n) o 0) (kept_at up s (class_at_same up s) i x at))
 
   -- an instance that stood somewhere stands there
-  pub instance_kept : (up : Address) → Stands m up → (i : ℕ) (x : Instance) → slice_get (instances_at m up) i ≡ Some x → slice_get (instances_at n up) i ≡ Some x
+  pub instance_kept : (up : Address) → Stands m up → (i : ℕ) (x : Instance) → slice_get (instances_at m up) i ≡ Some x
+      → slice_get (instances_at n up) i ≡ Some x
   instance_kept up s i x at = kept_at up s (class_at_same up s) i x at
 
   -- What stands in a level
 
-  each_same : (k : ℕ) → ((c : ℕ) (up : Address) → IsInner m c → inside m k c up ≡ inside n k c up) → (c : ℕ) (d : DeclTree) → declaration m c ≡ Some d → (up : Address) (xs : List Instance)
+  each_same : (k : ℕ) → ((c : ℕ) (up : Address) → IsInner m c → inside m k c up ≡ inside n k c up) → (c : ℕ) (d : DeclTree)
+      → declaration m c ≡ Some d → (up : Address) (xs : List Instance)
       → ((x : Instance) → Contains xs x → Contains (instances d) x) → (i : ℕ) → each_instance (with_inside m (inside m k) up) i xs ≡ each_instance (with_inside n (inside n k) up) i xs
   each_same k deeper c d is up [] among i = refl
   each_same k deeper c d is up (x ∷ xs) among i =
@@ -144,7 +154,8 @@ module _ (m n : ModelTree) (fits : SystemFits m) (grown : Grown m n) (more : Lis
       ∙ ap (λ (ps : List Address). (i ∷ up) ∷ (inside n k known.0 (i ∷ up) ++ ps)) (each_same k deeper c d is up xs (λ y at. among y (later_in x xs y at)) (suc i))
       ∙ ap (λ (b : ℕ). (i ∷ up) ∷ (inside n k b (i ∷ up) ++ each_instance (with_inside n (inside n k) up) (suc i) xs)) (sym class ∙ class_of_same x known.0 known.1)
 
-  level_same : (k : ℕ) → ((c : ℕ) (up : Address) → IsInner m c → inside m k c up ≡ inside n k c up) → (c : ℕ) → IsDeclared m c → (up : Address) (i : ℕ)
+  level_same : (k : ℕ) → ((c : ℕ) (up : Address) → IsInner m c → inside m k c up ≡ inside n k c up) → (c : ℕ) → IsDeclared m c
+      → (up : Address) (i : ℕ)
       → each_instance (with_inside m (inside m k) up) i (instances_in m c) ≡ each_instance (with_inside n (inside n k) up) i (instances_in m c)
   level_same k deeper c (d, is) up i = each_same k deeper c d is up (instances_in m c) (λ x at. subst (λ (xs : List Instance). Contains xs x) (ap (λ (o : Option DeclTree). option_map_or instances o []) is) at) i
 
@@ -173,7 +184,8 @@ module _ (m n : ModelTree) (fits : SystemFits m) (grown : Grown m n) (more : Lis
       ∙ ap (λ (ps : List Address). [] ∷ (ps ++ added k)) (sym (level_same k (inside_same k) (system_class m) is [] 0))
       ∙ ap (λ (ps : List Address). [] ∷ (ps ++ added k)) all
 
-  sort_at_same : (sort : DeclTree → Bool) → ((s t : SystemDecl) → sort (system s) ≡ sort (system t)) → (p : Address) → Stands m p → option_map_or sort (declaration n (class_at n p)) false ≡ option_map_or sort (declaration m (class_at m p)) false
+  sort_at_same : (sort : DeclTree → Bool) → ((s t : SystemDecl) → sort (system s) ≡ sort (system t)) → (p : Address) → Stands m p
+      → option_map_or sort (declaration n (class_at n p)) false ≡ option_map_or sort (declaration m (class_at m p)) false
   sort_at_same sort still p s =
       ap (λ (c : ℕ). option_map_or sort (declaration n c) false) (sym (class_at_same p s))
       ∙ sym (of_declared sort false still m n grown (class_at m p) (declared_at m fits p s))

@@ -1,5 +1,5 @@
 -- Code is the same where the classes that it creates have the same numbers.
-use Rattle.std.proofs.Common.{◌≡◌, refl, ap, ℕ, zero, suc, List, [], ◌∷◌, ◌++◌, length, Option, Some, None, arith}
+use Rattle.std.proofs.Common.{◌≡◌, refl, ap, ℕ, suc, List, [], ◌∷◌, ◌++◌, length, Option, Some, None, arith}
 use Rattle.std.specs.List.{Contains}
 use Rattle.std.specs.Option.{option_map}
 use Rattle.std.proofs.lemmas.List.Elements.{Contains-append_left, Contains-append_right}
@@ -11,7 +11,7 @@ use Rattle.pz_classes_mentions.specs.declared.mention.Mention.TheVariants as w
 use Rattle.pz_classes_mentions.specs.Expressions.{count, count_written, mentioned, mentioned_all, mentioned_part, mentioned_links, mentioned_sendings}
 use Rattle.pz_classes_mentions.specs.Statements.{variables, received, mentioned_condition, mentioned_statements, mentioned_otherwise, mentioned_branches}
 use Rattle.pz_classes_mentions.specs.Statements as statement
-use Rattle.pz_classes_code.specs.Resolution.{Scope, class_of, port_of, slot_of, slots_of, resolved, resolved_all, resolved_part, resolved_links, resolved_sendings, resolved_statement, resolved_statements, resolved_otherwise, resolved_branches}
+use Rattle.pz_classes_code.specs.Resolution.{Scope, class_of, resolved, resolved_all, resolved_part, resolved_links, resolved_sendings, resolved_statement, resolved_statements, resolved_otherwise, resolved_branches}
 
 -- the same names, but for those of classes
 module _ (locals shared ports one_classes other_classes : List ℕ → Option ℕ) where
@@ -76,7 +76,8 @@ module _ (locals shared ports one_classes other_classes : List ℕ → Option �
         let later = tail (w.Selector x (count_written args)) (mentioned_part args ++ mentioned_sendings ss) each in
         rw (part_same args (front (mentioned_part args) (mentioned_sendings ss) later), sendings_same ss (back (mentioned_part args) (mentioned_sendings ss) later)) refl
 
-  condition_same : (condition : Option (Expression Id Id)) → Each (mentioned_condition condition) → option_map (resolved one) condition ≡ option_map (resolved other) condition
+  condition_same : (condition : Option (Expression Id Id)) → Each (mentioned_condition condition)
+      → option_map (resolved one) condition ≡ option_map (resolved other) condition
   condition_same None each = refl
   condition_same (Some e) each = ap Some (same e each)
 

@@ -1,12 +1,9 @@
 -- The closed model has the rules of the one with the further channels.
-use Rattle.std.proofs.Common.{◌≡◌, refl, sym, ap, ◌∙◌, ◌⊎◌, inl, inr, subst, ℕ, zero, suc, ◌<◌, Bool, true, false, List, [], ◌∷◌, ◌++◌, length, Option, Some, None, slice_get, arith}
-use Rattle.std.specs.Prelude.{◌↔◌}
-use Rattle.std.specs.List.{AllByRecursion, filter}
-use Rattle.std.specs.Option.{option_map_or}
+use Rattle.std.proofs.Common.{◌≡◌, refl, sym, ap, ◌∙◌, inl, inr, subst, ℕ, zero, suc, ◌<◌, Bool, true, false, List, [], ◌∷◌, ◌++◌, length, Some, None, slice_get, arith}
+use Rattle.std.specs.List.{filter}
 use Rattle.pz_syntax.specs.declared.names.Id.{Id}
 use Rattle.pz_syntax.specs.Classes.{ModelTree}
-use Rattle.pz_classes.specs.Numbers.{declaration, class}
-use Rattle.pz_classes.specs.Kinds.{is_process}
+use Rattle.pz_classes.specs.Numbers.{class}
 use Rattle.pz_classes.specs.Members.{ports, spelled}
 use Rattle.pz_classes.specs.Reached.{AncestorsAreReached}
 use Rattle.pz_classes.specs.Soundness.{IsSound}
@@ -14,11 +11,9 @@ use Rattle.pz_classes.specs.SoundSystem.{SystemFits}
 use Rattle.pz_classes.specs.Starts.{init}
 use Rattle.pz_classes_openings.specs.OpeningRules.{Opens}
 use Rattle.pz_bind_levels.specs.Places.{Address}
-use Rattle.pz_bind.specs.Nest.{system_class, instances_in, class_at, places, is_process_at, processes}
-use Rattle.pz_bind.specs.Names.{path}
+use Rattle.pz_bind.specs.Nest.{class_at, places, is_process_at, processes}
 use Rattle.pz_bind.specs.Connections.{end}
 use Rattle.pz_bind.specs.Wires.{wires}
-use Rattle.pz_rules.specs.declared.limits.Edition.TheVariants.{Two}
 use Rattle.pz_rules.specs.CallLaws.{CallsUnfold}
 use Rattle.pz_rules.specs.Openable.{IsProcessClass}
 use Rattle.pz_rules.specs.Opening.{depth_of}
@@ -46,7 +41,8 @@ filter_passes : {A : Type 0} (f : A → Bool) (xs : List A) (i : ℕ) (x : A) �
 filter_passes f [] i x at = cc
 filter_passes {A} f (y ∷ ys) i x at = by (f y) refl i at (filter_passes f ys)
   where
-    by : (b : Bool) → f y ≡ b → (i : ℕ) → slice_get (filter f (y ∷ ys)) i ≡ Some x → ((k : ℕ) (z : A) → slice_get (filter f ys) k ≡ Some z → f z ≡ true) → f x ≡ true
+    by : (b : Bool) → f y ≡ b → (i : ℕ) → slice_get (filter f (y ∷ ys)) i ≡ Some x
+        → ((k : ℕ) (z : A) → slice_get (filter f ys) k ≡ Some z → f z ≡ true) → f x ≡ true
     by true does zero there rest = let chosen : Some y ≡ Some x = rw does at there in let eq : y ≡ x = cc in subst (λ (z : A). f z ≡ true) eq does
     by true does (suc k) there rest = rest k x (rw does at there)
     by false does k there rest = rest k x (rw does at there)

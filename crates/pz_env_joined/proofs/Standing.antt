@@ -1,5 +1,5 @@
 -- What stood in a system has the path, the parameters and the values that it had.
-use Rattle.std.proofs.Common.{◌≡◌, refl, sym, ap, ◌∙◌, ℕ, Bool, true, false, List, [], ◌∷◌, ◌++◌, map, Option, Some, None, slice_get}
+use Rattle.std.proofs.Common.{◌≡◌, refl, sym, ap, ◌∙◌, ℕ, Bool, true, false, List, [], ◌∷◌, ◌++◌, map, Option}
 use Rattle.std.specs.Prelude.{codes, if◌then◌else◌}
 use Rattle.std.specs.Option.{option_map_or, unwrap_or}
 use Rattle.std.specs.Str.{bytes_eq}
@@ -21,18 +21,20 @@ use Rattle.pz_bind.specs.Names.{name_at, path}
 use Rattle.pz_bind.specs.Values.{argument_value, given_value, parameter_at, values_at}
 use Rattle.pz_env_joined.proofs.Alike.{Grown}
 use Rattle.pz_env_joined.proofs.Members.{variables_same}
-use Rattle.pz_env_joined.proofs.Places.{Stands, the_system, inside_of, class_at_same, instance_kept, declared_at}
+use Rattle.pz_env_joined.proofs.Places.{Stands, inside_of, class_at_same, instance_kept, declared_at}
 
 argument_same : (f g : List ℕ → Value) → ((name : List ℕ) → f name ≡ g name) → (a : Arg) → argument_value f a ≡ argument_value g a
 argument_same f g alike (Plain l pos) = refl
 argument_same f g alike (Negated k pos) = refl
 argument_same f g alike (Parameter x) = alike x.name
 
-given_same : (f g : List ℕ → Value) → ((name : List ℕ) → f name ≡ g name) → (gs : List Given) (name : List ℕ) → given_value f gs name ≡ given_value g gs name
+given_same : (f g : List ℕ → Value) → ((name : List ℕ) → f name ≡ g name) → (gs : List Given) (name : List ℕ)
+    → given_value f gs name ≡ given_value g gs name
 given_same f g alike [] name = refl
 given_same f g alike (x ∷ xs) name = by (bytes_eq name x.name.name) (given_same f g alike xs name)
   where
-    by : (b : Bool) → given_value f xs name ≡ given_value g xs name → (if b then argument_value f x.arg else given_value f xs name) ≡ (if b then argument_value g x.arg else given_value g xs name)
+    by : (b : Bool) → given_value f xs name ≡ given_value g xs name
+        → (if b then argument_value f x.arg else given_value f xs name) ≡ (if b then argument_value g x.arg else given_value g xs name)
     by true rest = argument_same f g alike x.arg
     by false rest = rest
 

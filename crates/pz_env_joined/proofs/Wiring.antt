@@ -1,8 +1,8 @@
 -- Ends have the same wires in two models, in which the same stands as far as one looks, where of the channels
 -- of the system those with one number name the same of these ends.
-use Rattle.std.proofs.Common.{◌≡◌, refl, sym, ap, ◌∙◌, subst, ℕ, zero, suc, Bool, true, false, ◌||◌, IsTrue, List, [], ◌∷◌, ◌++◌, length, map, Option, Some, None, slice_get, arith}
+use Rattle.std.proofs.Common.{◌≡◌, refl, sym, ap, ◌∙◌, subst, ℕ, zero, suc, Bool, ◌||◌, List, [], ◌∷◌, ◌++◌, length, Option, Some, slice_get, arith}
 use Rattle.std.specs.Prelude.{if◌then◌else◌}
-use Rattle.std.specs.List.{list_any, flat_map, filter, AllByRecursion}
+use Rattle.std.specs.List.{list_any, flat_map, AllByRecursion}
 use Rattle.pz_syntax.specs.declared.clusters.Instance.{Instance}
 use Rattle.pz_syntax.specs.declared.clusters.Channel.{Channel as Written}
 use Rattle.pz_syntax.specs.declared.clusters.ChannelEnd.{ChannelEnd}
@@ -13,13 +13,14 @@ use Rattle.pz_bind_levels.specs.Places.{Address}
 use Rattle.pz_bind_levels.specs.Wires.{Channel, channel}
 use Rattle.pz_bind.specs.Nest.{instance_at, channels_at, levels}
 use Rattle.pz_bind.specs.Names.{name_at}
-use Rattle.pz_bind.specs.Connections.{PortEnd, end, names_inner, names_outer, IsIn, is_in, Joined, joined, Leads, itself, outwards, Reaches}
+use Rattle.pz_bind.specs.Connections.{PortEnd, end, names_inner, names_outer, IsIn, is_in, Joined, joined, Leads, itself, outwards}
 use Rattle.pz_bind.specs.Wires.{is_carried_on, is_joined, ending, wires_at, wires, HasWire}
 
 -- channels that name the same ports of this instance, and the same of their own cluster
 pub data AreLike (name : List ℕ) : List Written → List Written → Type 0 where
   none : AreLike name [] []
-  next : (h g : Written) (hs gs : List Written) → ((port : List ℕ) → names_inner name port h ≡ names_inner name port g) → ((port : List ℕ) → names_outer port h ≡ names_outer port g) → AreLike name hs gs
+  next : (h g : Written) (hs gs : List Written) → ((port : List ℕ) → names_inner name port h ≡ names_inner name port g)
+      → ((port : List ℕ) → names_outer port h ≡ names_outer port g) → AreLike name hs gs
       → AreLike name (h ∷ hs) (g ∷ gs)
 
 pub like_itself : (name : List ℕ) (hs : List Written) → AreLike name hs hs
@@ -45,7 +46,8 @@ like_at name _ _ none k h at = cc
 like_at name _ _ (next f g hs gs inner outer rest) zero h at = let eq : f ≡ h = cc in record { one = g; there = refl; inner = λ port. sym (inner port) ∙ ap (names_inner name port) eq }
 like_at name _ _ (next f g hs gs inner outer rest) (suc k) h at = let o = like_at name hs gs rest k h at in record { one = o.one; there = o.there; inner = o.inner }
 
-any_like : (name port : List ℕ) (hs gs : List Written) → AreLike name hs gs → list_any (names_inner name port) hs ≡ list_any (names_inner name port) gs
+any_like : (name port : List ℕ) (hs gs : List Written) → AreLike name hs gs
+    → list_any (names_inner name port) hs ≡ list_any (names_inner name port) gs
 any_like name port _ _ none = refl
 any_like name port _ _ (next h g hs gs inner outer rest) =
     ap (λ (b : Bool). b || list_any (names_inner name port) hs) (inner port)
@@ -138,7 +140,8 @@ module _ (S : Address → Type 0) (a b : ModelTree) (w : SameWiring S a b) where
   wires_same eq all = flat_same (levels a) all ∙ ap (flat_map (wires_at b)) eq
 
 -- an end that one sees has the same wire
-pub has_wire_kept : (S : Address → Type 0) (a b : ModelTree) → SameWiring S a b → wires a ≡ wires b → (e : PortEnd) (v : ℕ) → S e.place → HasWire a e v → HasWire b e v
+pub has_wire_kept : (S : Address → Type 0) (a b : ModelTree) → SameWiring S a b → wires a ≡ wires b → (e : PortEnd) (v : ℕ)
+    → S e.place → HasWire a e v → HasWire b e v
 has_wire_kept S a b w eq e v s has =
     let first = has.reached.first in
     let back = wiring_turned S a b w in

@@ -1,15 +1,18 @@
 -- What the closed model has: all that the model with the further channels has, and one process more.
-use Rattle.std.specs.Prelude.{◌≡◌, ℕ, suc, List, [], ◌∷◌, ◌++◌, length, Some}
+use Rattle.std.specs.Prelude.{◌≡◌, ℕ, suc, List, [], ◌∷◌, ◌++◌, length, map, Some}
 use Rattle.pz_syntax.specs.Classes.{ModelTree}
 use Rattle.pz_classes.specs.Numbers.{class}
+use Rattle.pz_classes.specs.Members.{variables, ports}
 use Rattle.pz_classes.specs.Tables.{class_names}
 use Rattle.pz_bind_levels.specs.Places.{Address}
 use Rattle.pz_bind.specs.Nest.{class_at, instances_at, processes}
 use Rattle.pz_bind.specs.Wires.{wires}
 use Rattle.pz_env_script.specs.declared.entry.Entry.{Entry}
 use Rattle.pz_env_rules.specs.Environment.{Line}
+use Rattle.pz_env_rules.specs.Ends.{first_mentions}
 use Rattle.pz_env_rules.specs.Joining.{joined}
-use Rattle.pz_env_tree.specs.Names.{class_name}
+use Rattle.pz_env_tree.specs.Names.{class_name, variable_name, port_of}
+use Rattle.pz_env_tree.specs.EnvironmentClass.{named}
 use Rattle.pz_env_tree.specs.ClosedTree.{closed_by}
 use Rattle.pz_env_tree.specs.Refusals.{IsFirstRefused}
 
@@ -29,5 +32,8 @@ pub record HasOneMore (m : ModelTree) (lines : List Line) : Type 0 where
   pub class : class (closed_by m lines) class_name ≡ Some (environment_class_number m)
   pub processes : processes (closed_by m lines) ≡ processes (joined m lines) ++ environment_place m ∷ []
   pub is_of : class_at (closed_by m lines) (environment_place m) ≡ environment_class_number m
+  -- its one variable, and a port for each end that the script names
+  pub variables : variables (closed_by m lines) (environment_class_number m) ≡ named variable_name ∷ []
+  pub ports : ports (closed_by m lines) (environment_class_number m) ≡ map (port_of lines) (first_mentions lines)
   -- the same wires, with the same numbers
   pub wires : wires (joined m lines) ≡ wires (closed_by m lines)
