@@ -1,9 +1,9 @@
 -- What classes have of their ancestors is the same in what has grown out of a sound model: the fields of each
--- number, and of the classes that there were the variables, ports and parameters.
+-- number, and of the classes that there were the variables and ports.
 use Rattle.std.proofs.Common.{◌≡◌, refl, ap, ◌∙◌, subst, ℕ, zero, suc, ◌<◌, List, [], ◌∷◌, ◌++◌, length, Option, Some, None, arith}
 use Rattle.std.specs.Prelude.{slice_index_or}
 use Rattle.std.specs.List.{Contains}
-use Rattle.std.specs.Option.{option_map_or}
+use Rattle.std.specs.Option.{option_map_or, option_or}
 use Rattle.pz_syntax.specs.declared.names.Id.{Id}
 use Rattle.pz_syntax.specs.declared.clusters.SystemDecl.{SystemDecl}
 use Rattle.pz_syntax.specs.Classes.{DeclTree, system, ModelTree}
@@ -11,7 +11,6 @@ use Rattle.pz_classes.specs.Numbers.{declaration}
 use Rattle.pz_classes.specs.Ancestors.{parent, followed, ancestors}
 use Rattle.pz_classes.specs.Members.{own_fields, own_variables, own_ports, from_root, fields, variables, ports}
 use Rattle.pz_classes.specs.Methods.{nearest}
-use Rattle.std.specs.Option.{option_or}
 use Rattle.pz_classes.specs.Reached.{AncestorsAreReached}
 use Rattle.pz_classes.specs.Soundness.{IsSound}
 use Rattle.pz_env_joined.proofs.Alike.{Grown, of_both, IsDeclared, of_declared}

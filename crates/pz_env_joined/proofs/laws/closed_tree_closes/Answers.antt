@@ -1,4 +1,4 @@
-use Rattle.std.proofs.Common.{◌<◌, ◌≤◌, ◌^◌, List, length, arith}
+use Rattle.std.proofs.Common.{◌<◌, ◌^◌, List, length, arith}
 use Rattle.pz_env_script.specs.declared.entry.Entry.{Entry}
 use Rattle.pz_env_script.specs.Scripts.{IsWritten}
 use Rattle.pz_env_joined.proofs.laws.closed_tree_closes.Goals as goal
