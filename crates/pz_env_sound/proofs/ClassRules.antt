@@ -19,7 +19,8 @@ use Rattle.pz_classes.specs.Soundness.{IsSound}
 use Rattle.pz_env_sound.proofs.Numbers.{none_some, some_same}
 use Rattle.pz_env_sound.proofs.Grown.{grown_decl, grown, IsDeclared, old, new, declared, declared_other, class_kept, class_new, sort_kept, data_same}
 use Rattle.pz_env_sound.proofs.Ancestors.{extended_same, parent_within, parent_same, parent_new, ancestors_same}
-use Rattle.pz_env_sound.proofs.NewParts.{IsFresh, fewer}
+use Rattle.pz_env_sound.proofs.NewParts.{IsFresh}
+use Rattle.pz_env_sound.proofs.Tests.{fewer}
 
 named_same : (f : SystemDecl → SystemDecl) (d : DeclTree) → declared_name (grown_decl f d) ≡ declared_name d
 named_same f (data_class c) = refl

@@ -21,7 +21,7 @@ use Rattle.pz_classes.specs.Words.{is_among}
 use Rattle.pz_classes.specs.Soundness.{IsSound}
 use Rattle.pz_env_sound.proofs.Grown.{grown_decl, grown, sort_kept, data_same, process_same, cluster_same}
 use Rattle.pz_env_sound.proofs.Members.{signatures_kept, fields_same, variables_same, ports_same, messages_same, start_same, method_same}
-use Rattle.pz_env_sound.proofs.NewParts.{fewer, either}
+use Rattle.pz_env_sound.proofs.Tests.{fewer, either}
 
 -- which rules a word breaks
 abbrev pub broken : ModelTree → ℕ → DeclTree → List Id → Mention → List Bool

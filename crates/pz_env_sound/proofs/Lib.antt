@@ -1,3 +1,4 @@
+mod Tests
 mod Numbers
 mod Grown
 mod WaysUp

@@ -16,7 +16,6 @@ use Rattle.pz_syntax.specs.ExpressionText.{arguments_text}
 use Rattle.pz_syntax.specs.StatementText as statement
 use Rattle.pz_syntax.specs.StatementText.{reception_text}
 use Rattle.pz_syntax.specs.ClassText.{types_text, message_text, messages_text, process_class_text}
-use Rattle.pz_syntax.specs.ModelText.{text}
 use Rattle.pz_value.specs.declared.value.Value.{Value}
 use Rattle.pz_env_script.specs.declared.entry.Transfer.{Transfer}
 use Rattle.pz_env_script.specs.declared.entry.Transfer.TheVariants.{Send, Receive}

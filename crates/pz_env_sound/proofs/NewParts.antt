@@ -1,8 +1,6 @@
 -- What is asked of the class and of the instance that are new.
-use Rattle.std.proofs.Common.{◌≡◌, Bool, true, false, not, ◌&&◌, ◌||◌, None, []}
-use Rattle.std.proofs.lemmas.Bool.{false≢true, or_left, or_right, not_from_true}
+use Rattle.std.proofs.Common.{◌≡◌, false, None, [], ◌∷◌, ◌++◌}
 use Rattle.std.specs.Option.{unwrap_or}
-use Rattle.std.proofs.Common.{◌++◌, ◌∷◌, refl}
 use Rattle.pz_syntax.specs.declared.clusters.Instance.{Instance}
 use Rattle.pz_syntax.specs.declared.clusters.SystemDecl.{SystemDecl}
 use Rattle.pz_syntax.specs.Classes.{ProcessClassTree, ModelTree}
@@ -22,17 +20,3 @@ pub record Gains (f : SystemDecl → SystemDecl) (e : ProcessClassTree) (i : Ins
   pub instances : (s : SystemDecl) → unwrap_or (f s).instances [] ≡ unwrap_or s.instances [] ++ i ∷ []
   pub class : i.class.name ≡ e.name.name
   pub given : i.given ≡ None
-
--- Tests that hold where others do
-
-pub fewer : (a b c : Bool) → (b ≡ true → c ≡ true) → a && not b ≡ false → a && not c ≡ false
-fewer false b c more is = refl
-fewer true true c more is = not_from_true c (more refl)
-fewer true false c more is = absurd (false≢true (flip is))
-  where
-    flip : true ≡ false → false ≡ true
-    flip e = cc
-
-pub either : (a b c d : Bool) → (a ≡ true → c ≡ true) → (b ≡ true → d ≡ true) → a || b ≡ true → c || d ≡ true
-either true b c d left right is = or_left c d (left refl)
-either false b c d left right is = or_right c d (right is)

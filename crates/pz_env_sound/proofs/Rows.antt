@@ -1,5 +1,5 @@
 -- A worked system may be closed by a worked script.
-use Rattle.std.proofs.Common.{◌≡◌, refl, sym, ap, subst, ◌∙◌, ℕ, zero, suc, ◌+◌, ◌<◌, ◌≤◌, Bool, true, false, not, ◌&&◌, List, [], ◌∷◌, map, Option, Some, None, codes, arith, lit<, lit≤, ◌⊎◌, inl, inr}
+use Rattle.std.proofs.Common.{◌≡◌, refl, sym, ap, subst, ◌∙◌, ℕ, zero, suc, ◌+◌, ◌≤◌, Bool, true, false, not, ◌&&◌, List, [], ◌∷◌, map, Option, Some, None, codes, arith, lit<, lit≤, ◌⊎◌, inl, inr}
 use Rattle.std.specs.Prelude.{pos}
 use Rattle.std.specs.List.{Contains, list_all, sum_by}
 use Rattle.std.specs.Option.{option_map_or}

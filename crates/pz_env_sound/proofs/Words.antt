@@ -18,7 +18,7 @@ use Rattle.pz_classes_mentions.specs.Declarations.{parts, mentioned_instance, me
 use Rattle.pz_check_violations.specs.declared.violation.Violation.{Violation}
 use Rattle.pz_check_violations.specs.Order.{violation}
 use Rattle.pz_classes_code.specs.ReservedNames.{is_unsupported}
-use Rattle.pz_classes.specs.Numbers.{declaration, class}
+use Rattle.pz_classes.specs.Numbers.{declaration}
 use Rattle.pz_classes.specs.Kinds.{is_process, is_cluster, is_declared_as}
 use Rattle.pz_classes.specs.Reached.{AncestorsAreReached}
 use Rattle.pz_classes.specs.NameRules.{breaks_c5, breaks_c6, has_instances, breaks_c12, breaks_c13, breaks_c18, breaks_c21, breaks_c22}

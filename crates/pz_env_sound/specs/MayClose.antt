@@ -8,8 +8,8 @@ use Rattle.pz_env_script.specs.declared.entry.Entry.{Entry}
 use Rattle.pz_env_script.specs.Scripts.{IsWritten}
 use Rattle.pz_env_tree.specs.Refusals.{IsFirstRefused}
 
--- The model violates no rule; its text has few marks, so that there is room for those of an environment;
--- the script keeps its limits, and it is refused from no line on.
+-- The model violates no rule, those on what opens among them; its text has few marks, so that there is
+-- room for those of an environment; the script keeps its limits, and it is refused from no line on.
 pub record MayClose (m : ModelTree) (script : List Entry) : Type 0 where
   pub sound : IsSound m
   pub opens : Opens m

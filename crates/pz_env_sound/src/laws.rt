@@ -11,8 +11,8 @@ pub fn closed_trees_are_sound()
     pz_env_tree::laws::refusals_are_computed();
 }
 
-/// In the tree of a system that a script may close, no method begins with a call that leads to itself, and none
-/// is too large with all that opens out of it.
+/// In the tree of a system that a script may close, no method begins with a call that leads to the
+/// method itself, and none is too large with all that opens out of it.
 pub fn closed_trees_open()
     ensures law { ClosedTreesOpen }
 {
