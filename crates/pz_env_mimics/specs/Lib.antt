@@ -1,3 +1,3 @@
-pub mod Environments
+pub mod PlainLines
 pub mod Closing
 pub mod Laws
