@@ -31,7 +31,7 @@ use Rattle.pz_env_tree.specs.EnvironmentClass.{first_place, named}
 use Rattle.pz_env_tree.specs.ClosedTree.{environment, closed_by}
 use Rattle.pz_env_same.specs.SameRules.{SameRules}
 use Rattle.pz_env_joined.specs.OneMore.{IsAccepted, HasOneMore}
-use Rattle.pz_env_joined.specs.Environments.{HasEnvironment}
+use Rattle.pz_env_mimics.specs.Environments.{HasEnvironment}
 use Rattle.pz_env_joined.proofs.Places.{Stands}
 use Rattle.pz_env_joined.proofs.Standing.{path_same}
 use Rattle.pz_env_joined.proofs.Closing.{grown_joined, grown_closed, joined_instances, closed_instances, closed_methods, joined_names, closed_names, env_named}

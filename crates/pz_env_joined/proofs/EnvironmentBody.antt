@@ -31,7 +31,7 @@ use Rattle.pz_env_tree.specs.Names as names
 use Rattle.pz_env_tree.specs.EnvironmentClass.{first_place, named, unless_none, environment_class}
 use Rattle.pz_env_tree.specs.EnvironmentClass as tree
 use Rattle.pz_env_tree.specs.ClosedTree.{closed_by}
-use Rattle.pz_env_joined.specs.Environments.{literals, arguments, exchange, waiting, statements}
+use Rattle.pz_env_mimics.specs.Environments.{literals, arguments, exchange, waiting, statements}
 use Rattle.pz_env_joined.proofs.Members.{first_in, later_in}
 use Rattle.pz_env_joined.proofs.Closing.{env_class, env_declared}
 use Rattle.pz_env_joined.proofs.Firsts.{has_first, end_is}

@@ -6,12 +6,14 @@ use Rattle.pz_classes.specs.Soundness.{IsSound}
 use Rattle.pz_classes_openings.specs.OpeningRules.{Opens}
 use Rattle.pz_rules.specs.declared.limits.Limits.{Limits}
 use Rattle.pz_env_script.specs.declared.entry.Entry.{Entry}
+use Rattle.pz_env_script.specs.Scripts.{IsWritten}
 use Rattle.pz_env_rules.specs.Environment.{lines_of}
 use Rattle.pz_env_rules.specs.Joining.{joined, driving}
 use Rattle.pz_env_tree.specs.ClosedTree.{closed_tree}
 use Rattle.pz_env_same.specs.SameRules.{SameRules}
+use Rattle.pz_env_mimics.specs.Environments.{HasEnvironment}
+use Rattle.pz_env_mimics.specs.Closing.{MayDrive, Closes}
 use Rattle.pz_env_joined.specs.OneMore.{IsAccepted, HasOneMore}
-use Rattle.pz_env_joined.specs.Environments.{HasEnvironment}
 
 -- The closed model has the rules of the model with the further channels, and one process more.
 abbrev pub ClosedHasSameRules : Type 0
@@ -27,3 +29,8 @@ ClosedHasOneMore = (m : ModelTree) (script : List Entry) → IsSound m → IsAcc
 abbrev pub ClosedHasEnvironment : Type 0
 ClosedHasEnvironment = (m : ModelTree) (script : List Entry) (limits : Limits) → IsSound m → Opens m → IsAccepted m script
     → length script < 2 ^ 64 → HasEnvironment (driving m script limits) (closed_tree m script)
+
+-- So it closes the driven system: the runs of both are the same, by the laws of `pz_env_mimics`.
+abbrev pub ClosedTreeCloses : Type 0
+ClosedTreeCloses = (m : ModelTree) (script : List Entry) (limits : Limits) → IsSound m → Opens m → IsWritten script → IsAccepted m script
+    → MayDrive limits → Closes (driving m script limits) (closed_tree m script)

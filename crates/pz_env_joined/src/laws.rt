@@ -1,6 +1,6 @@
 // Laws of closed systems, each the contract of a function that does nothing.
 
-ghost use Rattle.pz_env_joined.specs.Laws.{ClosedHasSameRules, ClosedHasOneMore, ClosedHasEnvironment};
+ghost use Rattle.pz_env_joined.specs.Laws.{ClosedHasSameRules, ClosedHasOneMore, ClosedHasEnvironment, ClosedTreeCloses};
 
 /// The model that a script closes has the rules of the model with the further channels: what evaluation
 /// takes of it, the processes with all that belongs to them, and their wires.
@@ -27,4 +27,14 @@ pub fn closed_has_environment()
     pz_classes::laws::ancestors_are_reached();
     pz_classes::laws::sound_systems_fit();
     pz_rules::laws::calls_unfold();
+}
+
+/// So the model that a written script closes stands for the driven system, under limits that an environment
+/// needs: the runs of the one are those of the other, by the laws of `pz_env_mimics`.
+pub fn closed_tree_closes()
+    ensures law { ClosedTreeCloses }
+{
+    pz_env_mimics::laws::written_lines_are_plain();
+    closed_has_same_rules();
+    closed_has_environment();
 }

@@ -21,7 +21,7 @@ use Rattle.pz_rules.specs.Steps.{Deed, Acts}
 use Rattle.pz_env_rules.specs.Environment.{Line, at_line, Doing, waits, offers, begins}
 use Rattle.pz_env_rules.specs.Joining.{Driving}
 use Rattle.pz_env_rules.specs.Driven.{Driven, plain, Gives, Gets}
-use Rattle.pz_env_joined.specs.Environments.{exchange}
+use Rattle.pz_env_mimics.specs.Environments.{exchange}
 use Rattle.pz_env_mimics.specs.Closing.{Closes, closed}
 use Rattle.pz_env_mimics.proofs.Known.{Known}
 use Rattle.pz_env_mimics.proofs.Doing.{offers_there}

@@ -25,7 +25,7 @@ use Rattle.pz_env_script.specs.Entries.{values_in}
 use Rattle.pz_env_rules.specs.Environment.{Line, at_line}
 use Rattle.pz_env_rules.specs.Ends.{named_at}
 use Rattle.pz_env_tree.specs.EnvironmentClass.{unless_none}
-use Rattle.pz_env_joined.specs.Environments.{exchange, arguments}
+use Rattle.pz_env_mimics.specs.Environments.{exchange, arguments}
 use Rattle.pz_env_mimics.proofs.Literals.{IsConstant, arguments_given, arguments_only, arguments_only_spent}
 use Rattle.pz_env_mimics.proofs.PlainValues.{plain_parcel, only_plain_parcel, bound_objects}
 use Rattle.pz_env_mimics.proofs.Environment.{IsWaiting, not_begun, begun, IsAround}

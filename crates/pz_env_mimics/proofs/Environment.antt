@@ -6,7 +6,7 @@ use Rattle.pz_rules.specs.Terms.{Steps, Term, done, leaf, wait, sequence, frame,
 use Rattle.pz_rules.specs.Settings.{Context}
 use Rattle.pz_rules.specs.Active.{Reached, Active, IsActive, here, inside}
 use Rattle.pz_env_rules.specs.Environment.{Line, at_line, wait_of, Doing, over, waits, offers}
-use Rattle.pz_env_joined.specs.Environments.{exchange, waiting, statements}
+use Rattle.pz_env_mimics.specs.Environments.{exchange, waiting, statements}
 
 -- the delay of a line, of which so much is left
 pub data IsWaiting (x : Line) : ℕ → Term → Type 0 where

@@ -28,7 +28,7 @@ use Rattle.pz_env_rules.specs.Joining.{Driving}
 use Rattle.pz_env_rules.specs.Driven.{environment_number}
 use Rattle.pz_env_rules.specs.Text as text
 use Rattle.pz_env_rules.specs.Text.{path_in}
-use Rattle.pz_env_joined.specs.Environments.{HasEnvironment}
+use Rattle.pz_env_mimics.specs.Environments.{HasEnvironment}
 use Rattle.pz_env_mimics.specs.Closing as closing
 use Rattle.pz_env_mimics.specs.Closing.{SameEnd, SameAction, SameEvent, SameEvents}
 

@@ -27,7 +27,7 @@ use Rattle.pz_rules.specs.Settings.{Context}
 use Rattle.pz_rules.specs.Meanings.{and_then, duration}
 use Rattle.pz_rules.specs.Evaluations.{allowance, value_or_trouble, values_or_trouble, Gives, GivesPart, Lasts}
 use Rattle.pz_env_tree.specs.EnvironmentClass.{literal_of}
-use Rattle.pz_env_joined.specs.Environments.{literals, arguments}
+use Rattle.pz_env_mimics.specs.Environments.{literals, arguments}
 
 -- the value is that of its literal
 abbrev pub IsConstant : Value → Type 0

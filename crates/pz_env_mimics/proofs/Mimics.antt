@@ -17,7 +17,7 @@ use Rattle.pz_env_rules.specs.Environment.{Line}
 use Rattle.pz_env_rules.specs.Joining.{Driving}
 use Rattle.pz_env_rules.specs.Driven.{Driven, environment_number, IsWireOf}
 use Rattle.pz_env_same.specs.OneMore.{OneMore}
-use Rattle.pz_env_mimics.specs.PlainLines.{IsPlain}
+use Rattle.pz_env_mimics.specs.Environments.{IsPlain}
 use Rattle.pz_env_mimics.specs.Closing.{Closes, closed}
 use Rattle.pz_env_mimics.proofs.Known.{Known}
 use Rattle.pz_env_mimics.proofs.Environment.{IsDoing, PartIs, part_is}

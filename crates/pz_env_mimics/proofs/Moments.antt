@@ -21,8 +21,7 @@ use Rattle.pz_env_rules.specs.Joining.{Driving}
 use Rattle.pz_env_rules.specs.Driven.{Driven, environment_end}
 use Rattle.pz_env_rules.specs.Moments as driven
 use Rattle.pz_env_rules.specs.Moments.{DrivenTroubles, spent, IsLeastDrivenTrouble, IsDrivenLeft, IsLeastDriven, AllOver, DrivenCandidate, IsDrivenMoment}
-use Rattle.pz_env_joined.specs.Environments.{exchange}
-use Rattle.pz_env_mimics.specs.PlainLines.{IsPlain}
+use Rattle.pz_env_mimics.specs.Environments.{exchange, IsPlain}
 use Rattle.pz_env_mimics.specs.Closing.{Closes, closed}
 use Rattle.pz_env_mimics.proofs.Known.{Known}
 use Rattle.pz_env_mimics.proofs.Environment.{IsWaiting, not_begun, begun, IsDoing, finished, waiting_for, offering_it}

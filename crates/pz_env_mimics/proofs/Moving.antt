@@ -18,8 +18,7 @@ use Rattle.pz_env_script.specs.declared.entry.Transfer.{Transfer}
 use Rattle.pz_env_script.specs.declared.entry.Transfer.TheVariants.{Send, Receive}
 use Rattle.pz_env_script.specs.Entries.{values_in}
 use Rattle.pz_env_rules.specs.Environment.{Line, at_line, Doing, waits, offers, begins}
-use Rattle.pz_env_joined.specs.Environments.{exchange}
-use Rattle.pz_env_mimics.specs.PlainLines.{IsPlain}
+use Rattle.pz_env_mimics.specs.Environments.{exchange, IsPlain}
 use Rattle.pz_env_mimics.specs.Closing.{MayDrive}
 use Rattle.pz_env_mimics.proofs.Literals.{IsConstant}
 use Rattle.pz_env_mimics.proofs.Environment.{behind, offering, called, IsDoing, waiting_for, offering_it, place_of, active_in_sequence, PartIs, around_it, ended, delayed, exchanges}

@@ -23,7 +23,7 @@ use Rattle.pz_env_rules.specs.Environment.{Line, at_line, Doing}
 use Rattle.pz_env_rules.specs.Joining.{Driving}
 use Rattle.pz_env_rules.specs.Driven.{Driven, environment_end}
 use Rattle.pz_env_rules.specs.Offers.{IsDrivenPair, of_processes, to_system, from_system, IsDrivenJudged, by_process, by_environment, DrivenOffers, acts, expires, communicates, IsDrivenOffers}
-use Rattle.pz_env_joined.specs.Environments.{exchange}
+use Rattle.pz_env_mimics.specs.Environments.{exchange}
 use Rattle.pz_env_mimics.specs.Closing.{Closes, closed}
 use Rattle.pz_env_mimics.proofs.Known.{Known}
 use Rattle.pz_env_mimics.proofs.Environment.{IsDoing, place_of}

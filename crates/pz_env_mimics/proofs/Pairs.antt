@@ -16,7 +16,7 @@ use Rattle.pz_env_rules.specs.Joining.{Driving}
 use Rattle.pz_env_rules.specs.Driven.{Driven, environment_end, IsWireOf}
 use Rattle.pz_env_rules.specs.Offers.{Hears, Says, IsDrivenPair, of_processes, to_system, from_system}
 use Rattle.pz_env_same.specs.SameRules.{seen_in}
-use Rattle.pz_env_joined.specs.Environments.{exchange}
+use Rattle.pz_env_mimics.specs.Environments.{exchange}
 use Rattle.pz_env_mimics.specs.Closing.{Closes, closed}
 use Rattle.pz_env_mimics.proofs.Known.{Known}
 use Rattle.pz_env_mimics.proofs.Environment.{place_of}

@@ -16,8 +16,7 @@ use Rattle.pz_env_rules.specs.Environment.{Line, Doing, offers}
 use Rattle.pz_env_rules.specs.Joining.{Driving}
 use Rattle.pz_env_rules.specs.Driven.{Driven}
 use Rattle.pz_env_same.specs.SameRules.{in_model, seen_in}
-use Rattle.pz_env_joined.specs.Environments.{exchange}
-use Rattle.pz_env_mimics.specs.PlainLines.{IsPlain}
+use Rattle.pz_env_mimics.specs.Environments.{exchange, IsPlain}
 use Rattle.pz_env_mimics.specs.Closing.{Closes, closed}
 use Rattle.pz_env_mimics.proofs.Known.{Known}
 use Rattle.pz_env_mimics.proofs.Environment.{IsDoing, place_of}

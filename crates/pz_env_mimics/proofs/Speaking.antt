@@ -29,8 +29,7 @@ use Rattle.pz_env_script.specs.Entries.{values_in}
 use Rattle.pz_env_rules.specs.Environment.{Line, at_line, wait_of}
 use Rattle.pz_env_rules.specs.Ends.{named_at}
 use Rattle.pz_env_tree.specs.EnvironmentClass.{unless_none}
-use Rattle.pz_env_joined.specs.Environments.{exchange, arguments}
-use Rattle.pz_env_mimics.specs.PlainLines.{IsPlain}
+use Rattle.pz_env_mimics.specs.Environments.{exchange, arguments, IsPlain}
 use Rattle.pz_env_mimics.specs.Closing.{MayDrive}
 use Rattle.pz_env_mimics.proofs.Literals.{IsConstant, number_lasts, number_only, arguments_given, arguments_only, arguments_spent, arguments_only_spent}
 use Rattle.pz_env_mimics.proofs.PlainValues.{plain_parcel, only_plain_parcel, count_of}

@@ -22,7 +22,7 @@ use Rattle.pz_env_rules.specs.Joining.{Driving}
 use Rattle.pz_env_rules.specs.Driven.{Driven, IsDrivenStart}
 use Rattle.pz_env_same.specs.OneMore.{OneMore, behind}
 use Rattle.pz_env_same.specs.SystemLaws.{MoreStarts}
-use Rattle.pz_env_joined.specs.Environments.{statements, waiting}
+use Rattle.pz_env_mimics.specs.Environments.{statements, waiting}
 use Rattle.pz_env_mimics.specs.Closing.{Closes, closed}
 use Rattle.pz_env_mimics.proofs.Known.{Known}
 use Rattle.pz_env_mimics.proofs.Environment.{IsDoing}

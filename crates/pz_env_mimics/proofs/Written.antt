@@ -9,7 +9,7 @@ use Rattle.pz_env_script.specs.Literals.{IsLiteral, nothing, truth, falsehood, n
 use Rattle.pz_env_script.specs.Entries.{IsTransfer, sends, receives, IsEntry, values_in}
 use Rattle.pz_env_script.specs.Scripts.{AreEntries, IsWritten}
 use Rattle.pz_env_rules.specs.Environment.{Line, lines_from, lines_of}
-use Rattle.pz_env_mimics.specs.PlainLines.{IsPlain, ArePlain}
+use Rattle.pz_env_mimics.specs.Environments.{IsPlain, ArePlain}
 use Rattle.pz_env_mimics.proofs.Literals.{IsConstant}
 
 literal_plain : (word : List ℕ) (v : Value) → IsLiteral word v → IsConstant v

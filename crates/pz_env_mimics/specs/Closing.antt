@@ -16,8 +16,7 @@ use Rattle.pz_rules.specs.Runs.{Event}
 use Rattle.pz_env_rules.specs.Joining.{Driving}
 use Rattle.pz_env_rules.specs.Driven.{environment_number}
 use Rattle.pz_env_same.specs.SameRules.{SameRules, in_model}
-use Rattle.pz_env_joined.specs.Environments.{HasEnvironment}
-use Rattle.pz_env_mimics.specs.PlainLines.{ArePlain}
+use Rattle.pz_env_mimics.specs.Environments.{ArePlain, HasEnvironment}
 
 -- The edition in which a plain call opens at once; a unit and a level of evaluation, for the number of a wait;
 -- and the height of what is left of the environment. Units for the values of a line are no matter here: where

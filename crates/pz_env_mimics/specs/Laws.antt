@@ -2,9 +2,6 @@
 use Rattle.std.specs.Prelude.{◌≡◌, ◌↔◌, ℕ, List, ◌++◌}
 use Rattle.std.specs.List.{flat_map}
 use Rattle.pz_syntax.specs.Classes.{ModelTree}
-use Rattle.pz_classes.specs.Soundness.{IsSound}
-use Rattle.pz_classes_openings.specs.OpeningRules.{Opens}
-use Rattle.pz_rules.specs.declared.limits.Limits.{Limits}
 use Rattle.pz_rules.specs.declared.moment.Moment.{Moment}
 use Rattle.pz_rules.specs.Configurations.{Config}
 use Rattle.pz_rules.specs.Starting.{IsStart}
@@ -18,17 +15,14 @@ use Rattle.pz_trace.specs.TraceText.{run_ending, events_text}
 use Rattle.pz_env_script.specs.declared.entry.Entry.{Entry}
 use Rattle.pz_env_script.specs.Scripts.{IsWritten}
 use Rattle.pz_env_rules.specs.Environment.{lines_of}
-use Rattle.pz_env_rules.specs.Joining.{Driving, driving}
+use Rattle.pz_env_rules.specs.Joining.{Driving}
 use Rattle.pz_env_rules.specs.Driven.{Driven, IsDrivenStart}
 use Rattle.pz_env_rules.specs.Moments.{IsDrivenMoment}
 use Rattle.pz_env_rules.specs.Runs.{DrivenReaches, DrivenEnds}
 use Rattle.pz_env_rules.specs.ChosenRuns.{IsChosenDrivenRun}
 use Rattle.pz_env_rules.specs.Text.{drive_header, event_line, end_line, IsDriveText}
-use Rattle.pz_env_joined.specs.Environments.{HasEnvironment}
-use Rattle.pz_env_mimics.specs.PlainLines.{ArePlain}
-use Rattle.pz_env_tree.specs.ClosedTree.{closed_tree}
-use Rattle.pz_env_joined.specs.OneMore.{IsAccepted}
-use Rattle.pz_env_mimics.specs.Closing.{MayDrive, Closes, closed, SameEvent, SameEvents}
+use Rattle.pz_env_mimics.specs.Environments.{ArePlain, HasEnvironment}
+use Rattle.pz_env_mimics.specs.Closing.{Closes, closed, SameEvent, SameEvents}
 
 module _ (g : Driving) (n : ModelTree) where
   -- a run of the model with the same events, which stands where this driven run does
@@ -91,14 +85,6 @@ module _ (g : Driving) (n : ModelTree) where
 -- the lines of a script that a text writes are plain
 abbrev pub WrittenLinesArePlain : Type 0
 WrittenLinesArePlain = (script : List Entry) → IsWritten script → ArePlain (lines_of script)
-
--- Closed trees
-
--- The tree of a sound model whose system a script closes is a model that closes the driven system, where a text
--- writes the script and it may drive that system.
-abbrev pub ClosedTreesClose : Type 0
-ClosedTreesClose = (m : ModelTree) (script : List Entry) (limits : Limits) → IsSound m → Opens m → IsAccepted m script → IsWritten script → MayDrive limits
-    → Closes (driving m script limits) (closed_tree m script)
 
 -- Runs
 

@@ -1,3 +1,3 @@
-pub mod PlainLines
+pub mod Environments
 pub mod Closing
 pub mod Laws

@@ -1,7 +1,7 @@
 // Laws of driven systems and of the models that close them, each the contract of a function that does
 // nothing.
 
-ghost use Rattle.pz_env_mimics.specs.Laws.{DrivenRunsAreClosed, ClosedRunsAreDriven, ChosenDrivenAreClosed, ChosenClosedAreDriven, EventLinesAreSame, EventTextsAreSame, EndLinesAreSame, TextsAreSame, WrittenLinesArePlain, ClosedTreesClose};
+ghost use Rattle.pz_env_mimics.specs.Laws.{DrivenRunsAreClosed, ClosedRunsAreDriven, ChosenDrivenAreClosed, ChosenClosedAreDriven, EventLinesAreSame, EventTextsAreSame, EndLinesAreSame, TextsAreSame, WrittenLinesArePlain};
 
 /// The runs of a model that closes a driven system are the driven runs: the same events one by one, at the
 /// same clocks, and where they stand the same may happen and they may end the same. So are the runs that a
@@ -35,12 +35,3 @@ pub fn lines_are_the_same()
 pub fn written_lines_are_plain()
     ensures law { WrittenLinesArePlain }
 {}
-
-/// The tree of a system that a script closes is a model that closes the driven system: of a sound model
-/// whose openings end, and of a script that a text writes and that may drive its system.
-pub fn closed_trees_close()
-    ensures law { ClosedTreesClose }
-{
-    pz_env_joined::laws::closed_has_same_rules();
-    pz_env_joined::laws::closed_has_environment();
-}

@@ -1,6 +1,6 @@
 -- What stands for the environment of a driven system in another model: one process more, numbered after all
 -- processes of the system, whose one method does the lines of the script.
-use Rattle.std.specs.Prelude.{◌≡◌, ◌↔◌, ◌≤◌, ◌<◌, ℕ, List, [], ◌∷◌, ◌++◌, replicate, length, Contains, Some, None, codes}
+use Rattle.std.specs.Prelude.{◌≡◌, ◌≢◌, ◌↔◌, ◌≤◌, ◌<◌, ℕ, pos, List, [], ◌∷◌, ◌++◌, replicate, length, All, Contains, Some, None, codes}
 use Rattle.pz_syntax.specs.declared.tokens.Pos.{Pos}
 use Rattle.pz_syntax.specs.declared.names.Id.{Id}
 use Rattle.pz_syntax.specs.declared.exprs.Literal.TheVariants as literal
@@ -13,6 +13,7 @@ use Rattle.pz_value.specs.declared.value.Value.{Value}
 use Rattle.pz_value.specs.declared.value.Value.TheVariants.{Nil}
 use Rattle.pz_classes_code.specs.declared.slot.Slot.{Slot}
 use Rattle.pz_classes_code.specs.declared.slot.Slot.TheVariants.{Shared}
+use Rattle.pz_classes_code.specs.Literals.{constant}
 use Rattle.pz_classes.specs.Bodies.{process_body}
 use Rattle.pz_classes.specs.MethodBodies.{process_method_body}
 use Rattle.pz_classes.specs.Starts.{init}
@@ -26,7 +27,8 @@ use Rattle.pz_rules.specs.Ports.{IsWire}
 use Rattle.pz_trace.specs.Labels.{path_of, wire_of}
 use Rattle.pz_env_script.specs.declared.entry.Transfer.{Transfer}
 use Rattle.pz_env_script.specs.declared.entry.Transfer.TheVariants.{Send, Receive}
-use Rattle.pz_env_rules.specs.Environment.{Line, at_line}
+use Rattle.pz_env_script.specs.Entries.{values_in}
+use Rattle.pz_env_rules.specs.Environment.{Line, at_line, wait_of}
 use Rattle.pz_env_rules.specs.Ends.{named_at}
 use Rattle.pz_env_rules.specs.Joining.{Driving}
 use Rattle.pz_env_rules.specs.Driven.{environment_number, IsWireOf}
@@ -53,6 +55,16 @@ waiting x = delay (at_line x) (expression.literal (at_line x) (literal.Int x.ent
 abbrev pub statements : (Line → ℕ) → List Line → Steps
 statements port [] = no_statements
 statements port (x ∷ xs) = (then) (waiting x) ((then) (exchange (port x) x x.entry.transfer) (statements port xs))
+
+-- it waits 0 or more, and each value that it sends is that of a literal, as in each line that is read
+pub record IsPlain (x : Line) : Type 0 where
+  pub wait : x.entry.wait ≡ pos (wait_of x.entry)
+  pub values : All (λ v. constant (literal_of v) ≡ v) (values_in x.entry.transfer)
+
+-- the lines of a script
+pub record ArePlain (lines : List Line) : Type 0 where
+  pub some : lines ≢ []
+  pub plain : All IsPlain lines
 
 -- The model has the processes of the system, and behind them its environment.
 pub record HasEnvironment (g : Driving) (n : ModelTree) : Type 0 where
