@@ -31,3 +31,4 @@ pub mod Shifting
 pub mod Shared
 pub mod Passing
 pub mod Freed
+pub mod Retold

@@ -5,6 +5,7 @@ pub mod Asking
 pub mod Holding
 pub mod Seeking
 pub mod Updating
+pub mod Again
 pub mod Tables
 pub mod Ordering
 pub mod Users

@@ -1,6 +1,8 @@
 //! The pairs of sends and receives that fit, kept while the offers of processes come and go.
 #![tactic(auto)]
 
+mod again;
+mod altering;
 mod asking;
 mod finding;
 mod groups;

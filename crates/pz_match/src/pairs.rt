@@ -1,11 +1,11 @@
+use crate::altering::alter;
 use crate::groups::Groups;
 use crate::judge::Judge;
 use crate::kept::Offers;
 use crate::offers::Sender;
 use crate::rows::Spare;
 use crate::seeking::{find_trouble, pair_on};
-use crate::sharing::{Way, shift};
-use crate::updating::{replace_in, silence};
+use crate::updating::silence;
 use crate::users::Users;
 use pz_match_lists::{Numbers, Shares};
 use pz_offer::{End, ReceiveOffer, SendOffer, Trouble};
@@ -109,13 +109,11 @@ impl Pairs {
         ensures lost { OnErr result (self.new.lost ≡ true) }
     {
         self.lost = true;
-        self.users
-            .note(process, sends.as_slice(), receives.as_slice())?;
-        shift(&mut self.shares, self.offers.as_slice(), process, Way::Off)?;
-        replace_in(
+        alter(
             &mut self.offers,
             &mut self.groups,
-            &self.users,
+            &mut self.users,
+            &mut self.shares,
             &mut self.places,
             &mut self.spare,
             process,
@@ -123,7 +121,6 @@ impl Pairs {
             receives,
             judge,
         )?;
-        shift(&mut self.shares, self.offers.as_slice(), process, Way::On)?;
         self.lost = false;
         Ok(())
     }
