@@ -32,3 +32,4 @@ pub mod Shared
 pub mod Passing
 pub mod Freed
 pub mod Retold
+pub mod Repeated

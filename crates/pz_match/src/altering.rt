@@ -51,7 +51,6 @@ fn exchange<J: Judge>(
     ensures asked { OnOk result (J.asked judge.new ≡ J.asked judge.old + all_written process
         (map kept all.new.items)) }
     ensures lent { J.lent judge.new ≡ J.lent judge.old }
-    ensures within_old { All (λ x. x.wire < groups.old.wires) groups.old.groups }
     ensures within { OnOk result (All (λ x. x.wire < groups.new.wires) groups.new.groups) }
     ensures distinct { OnOk result (Distinct groups.new.groups) }
 {
@@ -60,7 +59,8 @@ fn exchange<J: Judge>(
     replace_in(
         all, groups, users, places, spare, process, sends, receives, judge,
     )?;
-    shift(shares, all.as_slice(), process, Way::On)
+    shift(shares, all.as_slice(), process, Way::On)?;
+    Ok(())
 }
 
 /// A process offers other sends and receives. Where they are what it offers, but for places and

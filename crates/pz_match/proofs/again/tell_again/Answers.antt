@@ -1,8 +1,8 @@
 -- The offers of the process are those that are told.
-use Rattle.std.proofs.Common.{◌≡◌, ◌∙◌, ap, List, length, get_or, set}
+use Rattle.std.proofs.Common.{◌≡◌, ◌∙◌, ap, List, length, get_or, set, arith}
 use Rattle.std.specs.Prelude.{map}
 use Rattle.std.specs.Vec.{with_items}
-use Rattle.std.proofs.lemmas.List.{get_or_default, map-set}
+use Rattle.std.proofs.lemmas.List.{get_or_default, map-set, with_items_is}
 use Rattle.std.proofs.lemmas.Option.{get_or_from_slice_get}
 use Rattle.pz_match.specs.declared.kept.Offers.{Offers}
 use Rattle.pz_match.specs.declared.kept.Sending.{Sending}
@@ -35,4 +35,8 @@ returns c e there =
     let receives : c.tell_receives.new.receives ≡ told_again receive_again e.receives c.args.receives.items
     = c.tell_receives.ensures ∙ ap (λ (rs : List Receiving). told_again receive_again rs c.args.receives.items) (c.as_mut_slice-2.ensures.value ∙ ap (λ (k : Kept). k.receives) same) in
     let now : Offers = record { process = old.process; sends = with_items old.sends c.tell_sends.new.sends; receives = with_items old.receives c.tell_receives.new.receives } in
-    map-set kept c.args.all.now p now ∙ (λ i. set (map kept c.args.all.now) p (record { process = (same i).process; sends = sends i; receives = receives i }))
+    let sends_long = ap length c.as_mut_slice.ensures.value in
+    let receives_long = ap length c.as_mut_slice-2.ensures.value in
+    let now_sends : now.sends.items ≡ told_again send_again e.sends c.args.sends.items = with_items_is old.sends c.tell_sends.new.sends (omega (arith, c.tell_sends.auto.sends, sends_long, old.sends.ok.0)) ∙ sends in
+    let now_receives : now.receives.items ≡ told_again receive_again e.receives c.args.receives.items = with_items_is old.receives c.tell_receives.new.receives (omega (arith, c.tell_receives.auto.receives, receives_long, old.receives.ok.0)) ∙ receives in
+    map-set kept c.args.all.now p now ∙ (λ i. set (map kept c.args.all.now) p (record { process = (same i).process; sends = now_sends i; receives = now_receives i }))
