@@ -2,12 +2,11 @@
 use Rattle.std.proofs.Common.{◌≡◌, ◌<◌, ◌+◌, ◌/◌, refl, sym, ◌∙◌, ap, subst, ℕ, Bool, true, false, nat_eq, List, [], ◌∷◌, length, get_or, set, Some, if◌then◌else◌, arith}
 use Rattle.std.specs.Prelude.{All, AllPairs, count_by, map, sum_by}
 use Rattle.std.specs.List.{slice_get, flat_map}
-use Rattle.std.proofs.lemmas.List.{length-set, length-map, map-set, set-set}
+use Rattle.std.proofs.lemmas.List.{map-set, set-set}
 use Rattle.std.proofs.lemmas.List.Elements.{All-head, All-tail, All-nil, All-cons, All-set, All-weaker}
 use Rattle.std.proofs.lemmas.List.Sums.{sum_by-cons}
 use Rattle.std.proofs.lemmas.Option.{get_or_from_slice_get}
 use Rattle.pz_match_lists.specs.declared.shares.Part.{Part}
-use Rattle.pz_match_lists.specs.Shares.{share_at}
 use Rattle.pz_offer.specs.PlaceOrder.{PlaceBefore}
 use Rattle.pz_offer.specs.declared.ends.SendOffer.{SendOffer}
 use Rattle.pz_offer.specs.declared.ends.ReceiveOffer.{ReceiveOffer}
@@ -20,7 +19,7 @@ use Rattle.pz_match.specs.devices.Kept.{Kept, asks_in, rows_at}
 use Rattle.pz_match.specs.devices.Tallies.{GroupsView, Alike, tally_at, plus, pick, part_of, total_of}
 use Rattle.pz_match.specs.devices.Asking.{asked, asked_in, all_written}
 use Rattle.pz_match.specs.devices.Holding.{Holds, Sound, Answered}
-use Rattle.pz_match.specs.devices.Sharing.{block_of, IsShare, Shared}
+use Rattle.pz_match.specs.devices.Sharing.{block_of, Shared}
 use Rattle.pz_match.specs.devices.Updating.{Replaced, Untouched, renewed_in, silent, other_offers}
 use Rattle.pz_match.specs.devices.Users.{Noted, Whole}
 use Rattle.pz_match.specs.devices.Again.{Again, Beside, SameSend, SameReceive, SendAgain, ReceiveAgain, all_again, receive_again, send_again, told_again}

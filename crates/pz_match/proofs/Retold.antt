@@ -1,7 +1,7 @@
 -- Offers that come again, in lists.
-use Rattle.std.proofs.Common.{◌≡◌, ◌<◌, ◌+◌, ◌⊎◌, inl, inr, refl, sym, ◌∙◌, ap, subst, ℕ, zero, suc, Bool, true, false, ◌&&◌, nat_eq, List, [], ◌∷◌, ◌++◌, length, get_or, set, Option, Some, None, if◌then◌else◌, arith}
+use Rattle.std.proofs.Common.{◌≡◌, ◌<◌, ◌+◌, ◌⊎◌, inl, inr, refl, sym, ◌∙◌, ap, subst, ℕ, suc, Bool, true, false, ◌&&◌, nat_eq, List, [], ◌∷◌, ◌++◌, length, get_or, set, Option, Some, None, if◌then◌else◌, arith}
 use Rattle.std.specs.Prelude.{All, Contains, IfSome, map, count_by}
-use Rattle.std.specs.List.{slice_get, flat_map}
+use Rattle.std.specs.List.{slice_get}
 use Rattle.std.specs.Option.{option_map_or}
 use Rattle.std.proofs.lemmas.Bool.{false≢true}
 use Rattle.std.proofs.lemmas.List.Elements.{All-head, All-tail, All-nil, All-cons}
@@ -10,8 +10,6 @@ use Rattle.std.proofs.lemmas.Option.{get_or_from_slice_get}
 use Rattle.pz_match_lists.specs.Increasing.{list_at}
 use Rattle.pz_offer.specs.declared.ends.SendOffer.{SendOffer}
 use Rattle.pz_offer.specs.declared.ends.ReceiveOffer.{ReceiveOffer}
-use Rattle.pz_match.specs.declared.offers.Sender.{Sender}
-use Rattle.pz_match.specs.declared.offers.Receiver.{Receiver}
 use Rattle.pz_match.specs.declared.kept.Sending.{Sending}
 use Rattle.pz_match.specs.declared.kept.Receiving.{Receiving}
 use Rattle.pz_match.specs.Offers.{senders, receivers, sender, receiver}
@@ -19,7 +17,7 @@ use Rattle.pz_match.specs.devices.Kept.{free_in, asks_in}
 use Rattle.pz_match.specs.devices.Tallies.{GroupsView, HasKey, plus, only_in, receive_part, receives_part, sends_part, yeses, troubled}
 use Rattle.pz_match.specs.devices.Holding.{SendKeyed, ReceiveKeyed}
 use Rattle.pz_match.specs.devices.Users.{SendsNoted, ReceivesNoted, AskersNoted, asking_wire}
-use Rattle.pz_match.specs.devices.Again.{SameSend, SameReceive, SendAgain, ReceiveAgain, Beside, send_again, receive_again, told_again}
+use Rattle.pz_match.specs.devices.Again.{SameSend, SameReceive, ReceiveAgain, Beside, send_again, receive_again, told_again}
 
 get_there : {X : Type 0} (xs : List X) (i : ℕ) (x u : X) → x ≡ get_or xs i x → slice_get xs i ≡ Some u → x ≡ u
 get_there xs i x u is at = is ∙ get_or_from_slice_get xs i u x at

@@ -8,7 +8,7 @@ use Rattle.pz_match.specs.declared.kept.Offers.{Offers}
 use Rattle.pz_match.specs.declared.kept.Sending.{Sending}
 use Rattle.pz_match.specs.declared.kept.Receiving.{Receiving}
 use Rattle.pz_match.specs.devices.Kept.{Kept, kept}
-use Rattle.pz_match.specs.devices.Again.{all_again, receive_again, send_again, told_again}
+use Rattle.pz_match.specs.devices.Again.{receive_again, send_again, told_again}
 use Rattle.pz_match.proofs.Couples.{item_kept}
 use Rattle.pz_match.proofs.again.tell_again.Goals as goal
 

@@ -1,5 +1,5 @@
 -- One receive more is told.
-use Rattle.std.proofs.Common.{◌≡◌, ◌<◌, ◌∙◌, ap, sym, List, [], ◌∷◌, length, get_or, set, arith}
+use Rattle.std.proofs.Common.{◌≡◌, ◌<◌, ◌∙◌, ap, sym, [], ◌∷◌, length, get_or, set, arith}
 use Rattle.std.proofs.lemmas.List.{get_or_default, length-append}
 use Rattle.pz_match.specs.declared.kept.Receiving.{Receiving}
 use Rattle.pz_match.specs.devices.Again.{receive_again, told_again}

@@ -1,5 +1,5 @@
 -- One send more is told.
-use Rattle.std.proofs.Common.{◌≡◌, ◌<◌, ◌∙◌, ap, sym, List, [], ◌∷◌, length, get_or, set, arith}
+use Rattle.std.proofs.Common.{◌≡◌, ◌<◌, ◌∙◌, ap, sym, [], ◌∷◌, length, get_or, set, arith}
 use Rattle.std.proofs.lemmas.List.{get_or_default, length-append}
 use Rattle.pz_match.specs.declared.kept.Sending.{Sending}
 use Rattle.pz_match.specs.devices.Again.{send_again, told_again}

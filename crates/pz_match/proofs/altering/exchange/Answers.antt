@@ -1,5 +1,5 @@
 -- What a table keeps, once a process has other offers.
-use Rattle.std.proofs.Common.{◌≡◌, ◌<◌, ◌/◌, ◌∙◌, ap, subst, ℕ, List, length, get_or, Some, arith}
+use Rattle.std.proofs.Common.{◌≡◌, ◌<◌, ◌/◌, ◌∙◌, ap, subst, List, length, get_or, Some, arith}
 use Rattle.std.specs.List.{slice_get}
 use Rattle.std.specs.Prelude.{map}
 use Rattle.std.proofs.lemmas.Option.{slice_get-get_or}
