@@ -33,3 +33,4 @@ pub mod Passing
 pub mod Freed
 pub mod Retold
 pub mod Repeated
+pub mod Planned

@@ -6,6 +6,7 @@ pub mod Holding
 pub mod Seeking
 pub mod Updating
 pub mod Again
+pub mod Staying
 pub mod Tables
 pub mod Ordering
 pub mod Users

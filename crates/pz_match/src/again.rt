@@ -10,7 +10,7 @@ use crate::kept::{Offers, Receiving, Sending};
 use pz_offer::{ReceiveOffer, SendOffer};
 
 /// Whether a send has the marks of one that is kept.
-fn is_same_send(send: &Sending, offer: &SendOffer) -> bool
+pub(crate) fn is_same_send(send: &Sending, offer: &SendOffer) -> bool
     ensures { IsTrue result → SameSend send.now offer.now }
 {
     offer.wire == Some(send.sender.wire)
@@ -19,7 +19,7 @@ fn is_same_send(send: &Sending, offer: &SendOffer) -> bool
 }
 
 /// Whether a receive has the marks of one that is kept.
-fn is_same_receive(receive: &Receiving, offer: &ReceiveOffer) -> bool
+pub(crate) fn is_same_receive(receive: &Receiving, offer: &ReceiveOffer) -> bool
     ensures { IsTrue result → SameReceive receive.now offer.now }
 {
     offer.wire == Some(receive.receiver.wire)

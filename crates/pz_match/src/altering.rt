@@ -1,6 +1,6 @@
 // A process offers something else, or the same again.
 
-ghost use Rattle.std.specs.Prelude.{◌≡◌, ◌<◌, ◌≤◌, ◌+◌, length, map, All, AllPairs, OnOk};
+ghost use Rattle.std.specs.Prelude.{◌≡◌, ◌<◌, ◌+◌, length, map, All, AllPairs, OnOk};
 ghost use Rattle.pz_offer.specs.PlaceOrder.{PlaceBefore};
 ghost use Rattle.pz_match.specs.Offers.{senders, receivers};
 ghost use Rattle.pz_match.specs.Judging.{MayTake, Stays};

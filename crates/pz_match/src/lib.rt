@@ -13,6 +13,7 @@ mod offering;
 mod offers;
 mod pairs;
 mod places;
+mod planning;
 mod renewing;
 mod rows;
 mod seeking;
