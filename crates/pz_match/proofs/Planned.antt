@@ -1,5 +1,5 @@
 -- Which offers stay, and what they count.
-use Rattle.std.proofs.Common.{◌≡◌, ◌≤◌, ◌<◌, ◌+◌, ◌-◌, refl, sym, ◌∙◌, ap, subst, ℕ, zero, suc, List, [], ◌∷◌, ◌++◌, length, take, drop, replicate, get_or, Option, Some, None, arith}
+use Rattle.std.proofs.Common.{◌≡◌, ◌≤◌, ◌<◌, ◌+◌, ◌-◌, refl, sym, ◌∙◌, ap, subst, ℕ, zero, suc, Bool, true, false, nat_eq, List, [], ◌∷◌, ◌++◌, length, take, drop, replicate, get_or, Option, Some, None, arith}
 use Rattle.std.specs.Prelude.{All, map}
 use Rattle.std.specs.List.{slice_get}
 use Rattle.std.proofs.lemmas.List.{append_assoc, drop_all, drop_more, length-append, length-drop, length-take-le, take-append-drop, take_more}
@@ -9,11 +9,13 @@ use Rattle.pz_offer.specs.declared.ends.ReceiveOffer.{ReceiveOffer}
 use Rattle.pz_match.specs.declared.groups.Tally.{Tally}
 use Rattle.pz_match.specs.declared.kept.Sending.{Sending}
 use Rattle.pz_match.specs.declared.kept.Receiving.{Receiving}
-use Rattle.pz_match.specs.declared.planning.Stay.{Stay}
+use Rattle.pz_match.specs.declared.kept.Stay.{Stay}
 use Rattle.pz_match.specs.devices.Again.{Beside, SameReceive, SameSend}
 use Rattle.pz_match.specs.devices.Holding.{ReceiveKeyed, SendKeyed}
 use Rattle.pz_match.specs.devices.Staying.{MayReceive, MaySend, receive_stay, send_stay, stay_part, stays_part}
-use Rattle.pz_match.specs.devices.Tallies.{GroupsView, HasKey, Moves, Alike, no_tally, nothing, plus, receive_part, receives_part, send_part, sends_part}
+use Rattle.pz_match.specs.devices.Tallies.{GroupsView, Follows, HasKey, Moves, Alike, no_tally, nothing, pick, plus, receive_part, receives_part, send_part, sends_part}
+use Rattle.pz_match.specs.devices.Updating.{Covers}
+use Rattle.pz_match.specs.devices.Kept.{Kept}
 use Rattle.pz_match.proofs.Offered.{receives_append, sends_append}
 use Rattle.pz_match.proofs.Retold.{beside_head, beside_tail}
 
@@ -119,6 +121,13 @@ pub parted_receives : (a b : GroupsView) (rs : List Receiving) (f k n : ℕ) →
     → Moves a b (receives_part rs) (stays_part ((map receive_stay (take f rs) ++ replicate n None) ++ map receive_stay (drop k (drop f rs))))
 parted_receives = parted_at receives_part receive_stay receives_append receives_stay
 
+-- one more
+pub stays_next : (plan : List (Option Stay)) (i : ℕ) (x : Option Stay) → i < length plan → x ≡ get_or plan i x → (g : ℕ) → Alike (stays_part (take (i + 1) plan) g) (plus (stays_part (take i plan) g) (stay_part x g))
+stays_next plan i x lt is g =
+    subst (λ (xs : List (Option Stay)). Alike (stays_part xs g) (plus (stays_part (take i plan) g) (stay_part x g))) (sym (take_more plan i x lt ∙ ap (λ (y : Option Stay). take i plan ++ y ∷ []) (sym is)))
+    (let s = stays_append (take i plan) (x ∷ []) g in
+    record { sends = omega (arith, s.sends); free = omega (arith, s.free); own = omega (arith, s.own); asking = omega (arith, s.asking); yes = omega (arith, s.yes); troubles = omega (arith, s.troubles) })
+
 -- They have the marks of the new ones
 
 module _ {X Y : Type 0} (Same : X → Y → Type 0) (Keyed : X → Type 0) (stay : X → Option Stay) (May : Option Stay → Y → Type 0) (one : (x : X) (y : Y) → Same x y → Keyed x → May (stay x) y) (none : (y : Y) → May None y) where
@@ -166,3 +175,34 @@ may_receive g = may_be SameReceive (ReceiveKeyed g) receive_stay (MayReceive g) 
       wire_is = same.wire;
       keyed = subst (λ (m : List ℕ). HasKey g.groups r.group r.receiver.wire m o.count) (sym same.message) (subst (λ n. HasKey g.groups r.group r.receiver.wire r.receiver.message n) (sym same.count) key);
     }
+
+-- Groups go on
+
+pub may_send_still : (a b : GroupsView) → Follows a b → (stay : Option Stay) (o : SendOffer) → MaySend a stay o → MaySend b stay o
+may_send_still a b f None o may = may
+may_send_still a b f (Some s) o may = record { wire = may.wire; wire_is = may.wire_is; keyed = f.marks s.group may.wire o.message (length o.parcel.values) may.keyed; asks_not = may.asks_not }
+
+pub may_receive_still : (a b : GroupsView) → Follows a b → (stay : Option Stay) (o : ReceiveOffer) → MayReceive a stay o → MayReceive b stay o
+may_receive_still a b f None o may = may
+may_receive_still a b f (Some s) o may = record { wire = may.wire; wire_is = may.wire_is; keyed = f.marks s.group may.wire o.message o.count may.keyed }
+
+-- sends that stay do not ask
+pub asks_nothing : (a : GroupsView) (plan : List (Option Stay)) (os : List SendOffer) → Beside (MaySend a) plan os → (i g : ℕ) → (stays_part (take i plan) g).asking ≡ 0
+asks_nothing a plan os b zero g = refl
+asks_nothing a [] os b (suc i) g = refl
+asks_nothing a (x ∷ plan) [] b (suc i) g = absurd (let e = b.long in omega (arith, e))
+asks_nothing a (x ∷ plan) (o ∷ os) b (suc i) g =
+    let here = one x (beside_head (MaySend a) x plan o os b) in
+    let later = asks_nothing a plan os (beside_tail (MaySend a) x plan o os b) i g in
+    omega (arith, here, later)
+  where
+    one : (stay : Option Stay) → MaySend a stay o → (stay_part stay g).asking ≡ 0
+    one None may = refl
+    one (Some s) may = by (nat_eq s.group g)
+      where
+        by : (c : Bool) → (pick c s.tally).asking ≡ 0
+        by true = may.asks_not
+        by false = refl
+
+pub covers_still : (a b : GroupsView) (all : List Kept) (less more : ℕ → Tally) → Covers a all → Moves a b less more → ((g : ℕ) → (less g).asking ≡ 0) → Covers b all
+covers_still a b all less more covers moves none g = let c = covers g in let m = (moves g).asking in let n = none g in omega (arith, c, m, n)

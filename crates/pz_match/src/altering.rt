@@ -14,6 +14,7 @@ use crate::again::{is_again, tell_again};
 use crate::groups::Groups;
 use crate::judge::Judge;
 use crate::kept::Offers;
+use crate::planning::Plan;
 use crate::rows::Spare;
 use crate::sharing::{Way, shift};
 use crate::updating::replace_in;
@@ -30,6 +31,7 @@ fn exchange<J: Judge>(
     users: &mut Users,
     shares: &mut Shares,
     places: &mut Numbers,
+    plan: &mut Plan,
     spare: &mut Spare,
     process: u32,
     sends: Vec<SendOffer>,
@@ -57,7 +59,7 @@ fn exchange<J: Judge>(
     users.note(process, sends.as_slice(), receives.as_slice())?;
     shift(shares, all.as_slice(), process, Way::Off)?;
     replace_in(
-        all, groups, users, places, spare, process, sends, receives, judge,
+        all, groups, users, places, plan, spare, process, sends, receives, judge,
     )?;
     shift(shares, all.as_slice(), process, Way::On)?;
     Ok(())
@@ -72,6 +74,7 @@ pub(crate) fn alter<J: Judge>(
     users: &mut Users,
     shares: &mut Shares,
     places: &mut Numbers,
+    plan: &mut Plan,
     spare: &mut Spare,
     process: u32,
     sends: Vec<SendOffer>,
@@ -110,6 +113,6 @@ pub(crate) fn alter<J: Judge>(
         return Ok(());
     }
     exchange(
-        all, groups, users, shares, places, spare, process, sends, receives, judge,
+        all, groups, users, shares, places, plan, spare, process, sends, receives, judge,
     )
 }

@@ -3,6 +3,7 @@ use crate::groups::Groups;
 use crate::judge::Judge;
 use crate::kept::Offers;
 use crate::offers::Sender;
+use crate::planning::Plan;
 use crate::rows::Spare;
 use crate::seeking::{find_trouble, pair_on};
 use crate::updating::silence;
@@ -22,6 +23,8 @@ pub struct Pairs {
     shares: Shares,
     /// The places of the processes whose sends an update asks about: room for the next one.
     places: Numbers,
+    /// What stays at an update: room for the next one.
+    plan: Plan,
     /// Rows of sends that are gone: room for those that come.
     spare: Spare,
     lost: bool,
@@ -66,6 +69,7 @@ impl Pairs {
             users: Users::new(alloc),
             shares: Shares::new(alloc),
             places: Numbers::new(alloc),
+            plan: Plan::new(alloc),
             spare: Spare::new(alloc),
             lost: false,
         })
@@ -115,6 +119,7 @@ impl Pairs {
             &mut self.users,
             &mut self.shares,
             &mut self.places,
+            &mut self.plan,
             &mut self.spare,
             process,
             sends,

@@ -1,25 +1,19 @@
 // Which offers of a process stay in their groups: the first and the last, where the new ones have the same
 // marks.
 
-ghost use Rattle.std.specs.Prelude.{◌≡◌, ◌<◌, ◌≤◌, ◌-◌, ◌++◌, ℕ, None, length, map, replicate, take, drop, All, OnOk};
+ghost use Rattle.std.specs.Prelude.{◌≡◌, ◌<◌, ◌≤◌, ◌-◌, ◌++◌, ℕ, None, length, map, replicate, take, drop, All, IfOk, IfSome, OnOk};
 ghost use Rattle.pz_match.specs.devices.Again.{Beside, SameReceive, SameSend};
 ghost use Rattle.pz_match.specs.devices.Holding.{ReceiveKeyed, SendKeyed};
-ghost use Rattle.pz_match.specs.devices.Staying.{MayReceive, MaySend, receive_stay, send_stay, stays_part};
-ghost use Rattle.pz_match.specs.devices.Tallies.{Follows, GroupsView, Moves, receives_part, sends_part};
+ghost use Rattle.pz_match.specs.devices.Staying.{MayReceive, MaySend, receive_stay, send_stay, stay_part, stays_part};
+ghost use Rattle.pz_match.specs.devices.Tallies.{Follows, GroupsView, HasKey, Moves, SameTallies, only_in, receives_part, sends_part};
 
 use crate::again::{is_same_receive, is_same_send};
-use crate::groups::{Groups, Tally};
-use crate::kept::{Receiving, Sending};
+use crate::groups::{Groups, NOTHING};
+use crate::kept::{Receiving, Sending, Stay};
 use crate::tallying::{receive_tally, send_tally, withdraw_receives, withdraw_sends};
 use pz_offer::{ReceiveOffer, SendOffer};
+use pz_syntax::Name;
 use std::alloc::{AllocError, Global};
-
-/// What an offer that stays in its group counts there.
-#[derive(Clone, Copy)]
-pub(crate) struct Stay {
-    pub(crate) group: usize,
-    pub(crate) tally: Tally,
-}
 
 /// Of each new offer of a process, what it counts already, if it stays.
 #[derive(Drop)]
@@ -134,10 +128,7 @@ fn plan_sends(
 }
 
 /// These receives stay. The only error is want of memory.
-fn plan_receives(
-    plan: &mut Vec<Option<Stay>>,
-    receives: &[Receiving],
-) -> Result<(), AllocError>
+fn plan_receives(plan: &mut Vec<Option<Stay>>, receives: &[Receiving]) -> Result<(), AllocError>
     ensures { OnOk result (plan.new.items ≡ plan.old.items ++ map receive_stay receives.now) }
 {
     for receive in receives {
@@ -205,4 +196,31 @@ pub(crate) fn part_receives(
     plan_receives(plan, last)?;
     withdraw_receives(groups, gone)?;
     Ok(())
+}
+
+/// What an offer with these marks counts already, and in which group: the one where it stays, else nothing
+/// in the one with its marks, which is made if it is not there. The only error is want of memory.
+pub(crate) fn seat(
+    groups: &mut Groups,
+    stay: Option<Stay>,
+    wire: u32,
+    message: &Name,
+    count: usize,
+) -> Result<Stay, AllocError>
+    requires { IfSome stay (λ s. HasKey groups.old.groups s.group wire message.now count) }
+    ensures found { IfOk result (λ s. HasKey groups.new.groups s.group wire message.now count) }
+    ensures counts { IfOk result (λ s. (g : ℕ) → only_in s.group s.tally g ≡ stay_part stay g) }
+    ensures follows { OnOk result (Follows groups.old groups.new) }
+    ensures tallies { OnOk result (SameTallies groups.old groups.new) }
+{
+    match stay {
+        Some(stay) => Ok(stay),
+        None => {
+            let group = groups.number(wire, message, count)?;
+            Ok(Stay {
+                group,
+                tally: NOTHING,
+            })
+        }
+    }
 }

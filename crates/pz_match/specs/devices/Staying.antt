@@ -5,7 +5,7 @@ use Rattle.pz_offer.specs.declared.ends.ReceiveOffer.{ReceiveOffer}
 use Rattle.pz_match.specs.declared.groups.Tally.{Tally}
 use Rattle.pz_match.specs.declared.kept.Sending.{Sending}
 use Rattle.pz_match.specs.declared.kept.Receiving.{Receiving}
-use Rattle.pz_match.specs.declared.planning.Stay.{Stay}
+use Rattle.pz_match.specs.declared.kept.Stay.{Stay}
 use Rattle.pz_match.specs.devices.Tallies.{GroupsView, HasKey, no_tally, plus, only_in, send_tally, receive_tally}
 
 -- what an offer counts already, if it stays
@@ -16,6 +16,10 @@ stay_part (Some s) g = only_in s.group s.tally g
 abbrev pub stays_part : List (Option Stay) → ℕ → Tally
 stays_part [] g = no_tally
 stays_part (s ∷ ss) g = plus (stay_part s g) (stays_part ss g)
+
+-- sends and receives
+abbrev pub planned : List (Option Stay) → List (Option Stay) → ℕ → Tally
+planned sends receives g = plus (stays_part sends g) (stays_part receives g)
 
 -- an offer that stays is in the group with its marks
 

@@ -3,7 +3,7 @@ use Rattle.std.proofs.Common.{◌≡◌, ◌-◌, ◌++◌, ◌∙◌, sym, subs
 use Rattle.std.specs.Prelude.{map}
 use Rattle.pz_offer.specs.declared.ends.ReceiveOffer.{ReceiveOffer}
 use Rattle.pz_match.specs.declared.kept.Receiving.{Receiving}
-use Rattle.pz_match.specs.declared.planning.Stay.{Stay}
+use Rattle.pz_match.specs.declared.kept.Stay.{Stay}
 use Rattle.pz_match.specs.devices.Again.{Beside, SameReceive}
 use Rattle.pz_match.specs.devices.Staying.{MayReceive, receive_stay, stays_part}
 use Rattle.pz_match.specs.devices.Tallies.{Moves, nothing, receives_part}

@@ -3,7 +3,7 @@ use Rattle.std.proofs.Common.{◌≡◌, ◌-◌, ◌++◌, ◌∙◌, sym, subs
 use Rattle.std.specs.Prelude.{map}
 use Rattle.pz_offer.specs.declared.ends.SendOffer.{SendOffer}
 use Rattle.pz_match.specs.declared.kept.Sending.{Sending}
-use Rattle.pz_match.specs.declared.planning.Stay.{Stay}
+use Rattle.pz_match.specs.declared.kept.Stay.{Stay}
 use Rattle.pz_match.specs.devices.Again.{Beside, SameSend}
 use Rattle.pz_match.specs.devices.Staying.{MaySend, send_stay, stays_part}
 use Rattle.pz_match.specs.devices.Tallies.{Moves, nothing, sends_part}
