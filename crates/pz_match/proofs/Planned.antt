@@ -2,7 +2,7 @@
 use Rattle.std.proofs.Common.{◌≡◌, ◌≤◌, ◌<◌, ◌+◌, ◌-◌, refl, sym, ◌∙◌, ap, subst, ℕ, zero, suc, Bool, true, false, nat_eq, List, [], ◌∷◌, ◌++◌, length, take, drop, replicate, get_or, Option, Some, None, arith}
 use Rattle.std.specs.Prelude.{All, map}
 use Rattle.std.specs.List.{slice_get}
-use Rattle.std.proofs.lemmas.List.{append_assoc, drop_all, drop_more, length-append, length-drop, length-take-le, take-append-drop, take_more}
+use Rattle.std.proofs.lemmas.List.{append_assoc, drop_all, drop_more, length-take-le, take-append-drop, take_more}
 use Rattle.std.proofs.lemmas.List.Elements.{All-drop, All-head, All-tail, All-take}
 use Rattle.pz_offer.specs.declared.ends.SendOffer.{SendOffer}
 use Rattle.pz_offer.specs.declared.ends.ReceiveOffer.{ReceiveOffer}

@@ -16,7 +16,7 @@ use Rattle.pz_match.specs.Offers.{senders, receivers, sender, receiver}
 use Rattle.pz_match.specs.Judging.{Verdicts}
 use Rattle.pz_match.specs.declared.kept.Offers.{Offers}
 use Rattle.pz_match.specs.devices.Kept.{Kept, kept}
-use Rattle.pz_match.specs.devices.Tallies.{GroupsView, Follows, Moves, Alike, tally_at, nothing, plus, receives_part, part_of, total_of}
+use Rattle.pz_match.specs.devices.Tallies.{GroupsView, Follows, Moves, Alike, tally_at, plus, receives_part, part_of, total_of}
 use Rattle.pz_match.specs.devices.Holding.{Holds, SendKeyed, ReceiveKeyed}
 use Rattle.pz_match.specs.devices.Updating.{Heard, Offered, Replaced, Covers, renewed_in, silent, other_offers}
 use Rattle.pz_match.proofs.Sought.{numbered_at}

@@ -1,13 +1,10 @@
 -- One receive more.
-use Rattle.std.proofs.Common.{◌≡◌, ◌<◌, ◌+◌, ◌∙◌, ap, subst, ℕ, List, [], ◌∷◌, ◌++◌, length, take, get_or, Option, Some, None, arith}
+use Rattle.std.proofs.Common.{◌≡◌, ◌<◌, ◌+◌, [], ◌∷◌, length, take, get_or, Option, Some, None, arith}
 use Rattle.std.specs.List.{slice_get}
-use Rattle.std.specs.Option.{option_to_list}
 use Rattle.std.proofs.lemmas.List.{get_or_default, length-append}
 use Rattle.std.proofs.lemmas.Option.{slice_get-get_or, slice_get_within}
-use Rattle.pz_match.specs.declared.kept.Receiving.{Receiving}
 use Rattle.pz_match.specs.declared.kept.Stay.{Stay}
-use Rattle.pz_match.specs.devices.Staying.{MayReceive, stays_part}
-use Rattle.pz_match.specs.devices.Updating.{Heard}
+use Rattle.pz_match.specs.devices.Staying.{stays_part}
 use Rattle.pz_match.proofs.Drained.{given_at}
 use Rattle.pz_match.proofs.Offered.{heard_next}
 use Rattle.pz_match.proofs.Planned.{may_receive_still, stays_next}
