@@ -217,11 +217,9 @@ pub(crate) fn replace_in<J: Judge>(
     ensures asked { OnOk result (J.asked judge.new ≡ J.asked judge.old + all_written process
         (map kept all.new.items)) }
     ensures lent { J.lent judge.new ≡ J.lent judge.old }
-    ensures within_old { All (λ x. x.wire < groups.old.wires) groups.old.groups }
     ensures within { OnOk result (All (λ x. x.wire < groups.new.wires) groups.new.groups) }
     ensures distinct { OnOk result (Distinct groups.new.groups) }
 {
-    groups.are_distinct();
     let slice = all.as_mut_slice();
     replace(
         slice, groups, users, places, plan, spare, process, sends, receives, judge,
