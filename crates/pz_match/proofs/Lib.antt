@@ -31,3 +31,6 @@ pub mod Shifting
 pub mod Shared
 pub mod Passing
 pub mod Freed
+pub mod Retold
+pub mod Repeated
+pub mod Planned

@@ -39,10 +39,17 @@ moves_same a b c less more same m g =
     let s = same g in let h = m g in
     record { sends = omega (arith, s.sends, h.sends); free = omega (arith, s.free, h.free); own = omega (arith, s.own, h.own); asking = omega (arith, s.asking, h.asking); yes = omega (arith, s.yes, h.yes); troubles = omega (arith, s.troubles, h.troubles) }
 
-pub gains_next : (a b c : GroupsView) (x y z : ℕ → Tally) → ((g : ℕ) → Alike (z g) (plus (x g) (y g))) → Moves a b nothing x → Moves b c nothing y → Moves a c nothing z
-gains_next a b c x y z adds m n g =
-    let s = adds g in let h = m g in let k = n g in
-    record { sends = omega (arith, s.sends, h.sends, k.sends); free = omega (arith, s.free, h.free, k.free); own = omega (arith, s.own, h.own, k.own); asking = omega (arith, s.asking, h.asking, k.asking); yes = omega (arith, s.yes, h.yes, k.yes); troubles = omega (arith, s.troubles, h.troubles, k.troubles) }
+pub moves_next : (a b c : GroupsView) (l m n x y z : ℕ → Tally) → ((g : ℕ) → Alike (n g) (plus (l g) (m g))) → ((g : ℕ) → Alike (z g) (plus (x g) (y g))) → Moves a b l x → Moves b c m y → Moves a c n z
+moves_next a b c l m n x y z less more f k g =
+    let p = less g in let q = more g in let h = f g in let j = k g in
+    record {
+      sends = omega (arith, p.sends, q.sends, h.sends, j.sends);
+      free = omega (arith, p.free, q.free, h.free, j.free);
+      own = omega (arith, p.own, q.own, h.own, j.own);
+      asking = omega (arith, p.asking, q.asking, h.asking, j.asking);
+      yes = omega (arith, p.yes, q.yes, h.yes, j.yes);
+      troubles = omega (arith, p.troubles, q.troubles, h.troubles, j.troubles);
+    }
 
 pub receives_append : (xs ys : List Receiving) (g : ℕ) → Alike (receives_part (xs ++ ys) g) (plus (receives_part xs g) (receives_part ys g))
 receives_append [] ys g = record { sends = omega arith; free = omega arith; own = omega arith; asking = omega arith; yes = omega arith; troubles = omega arith }
@@ -58,13 +65,13 @@ sends_append rs (x ∷ xs) ys g =
 
 -- Receives
 
-pub heard_none : (a : GroupsView) (process : ℕ) → Heard a a process [] []
+pub heard_none : (a : GroupsView) (process : ℕ) → Heard a a nothing process [] []
 heard_none a process = record { follows = follows_same a; moves = moves_none a; keyed = All-nil (ReceiveKeyed a); same = refl }
 
-pub heard_next : {a b c : GroupsView} {process : ℕ} {xs ys : List ReceiveOffer} {more less : List Receiving} → Heard a b process xs more → Heard b c process ys less → Heard a c process (xs ++ ys) (more ++ less)
-heard_next {a} {b} {c} {process} {xs} {ys} {more} {less} h k = record {
+pub heard_next : {a b c : GroupsView} {l m n : ℕ → Tally} {process : ℕ} {xs ys : List ReceiveOffer} {more less : List Receiving} → ((g : ℕ) → Alike (n g) (plus (l g) (m g))) → Heard a b l process xs more → Heard b c m process ys less → Heard a c n process (xs ++ ys) (more ++ less)
+heard_next {a} {b} {c} {l} {m} {n} {process} {xs} {ys} {more} {less} adds h k = record {
   follows = follows_next h.follows k.follows;
-  moves = gains_next a b c (receives_part more) (receives_part less) (receives_part (more ++ less)) (receives_append more less) h.moves k.moves;
+  moves = moves_next a b c l m n (receives_part more) (receives_part less) (receives_part (more ++ less)) adds (receives_append more less) h.moves k.moves;
   keyed = All-append (ReceiveKeyed c) more less (All-weaker (ReceiveKeyed b) (ReceiveKeyed c) (receive_keyed k.follows) more h.keyed) k.keyed;
   same = map-append (λ (r : Receiving). r.receiver) more less ∙ ((λ i. h.same i ++ k.same i) ∙ sym (flat_map-append _ xs ys));
 }
@@ -72,13 +79,13 @@ heard_next {a} {b} {c} {process} {xs} {ys} {more} {less} h k = record {
 -- Sends
 
 module _ (says : Verdicts) (all : List Kept) (rs : List Receiving) where
-  pub offered_none : (a : GroupsView) (process : ℕ) → Offered says all rs a a process [] []
+  pub offered_none : (a : GroupsView) (process : ℕ) → Offered says all rs a a nothing process [] []
   offered_none a process = record { follows = follows_same a; moves = moves_none a; keyed = All-nil (SendKeyed a); same = refl; answered = All-nil (λ (s : Sending). s.rows ≡ flat_map (asked_in says s.sender s.group) all) }
 
-  pub offered_next : {a b c : GroupsView} {process : ℕ} {xs ys : List SendOffer} {more less : List Sending} → Offered says all rs a b process xs more → Offered says all rs b c process ys less → Offered says all rs a c process (xs ++ ys) (more ++ less)
-  offered_next {a} {b} {c} {process} {xs} {ys} {more} {less} h k = record {
+  pub offered_next : {a b c : GroupsView} {l m n : ℕ → Tally} {process : ℕ} {xs ys : List SendOffer} {more less : List Sending} → ((g : ℕ) → Alike (n g) (plus (l g) (m g))) → Offered says all rs a b l process xs more → Offered says all rs b c m process ys less → Offered says all rs a c n process (xs ++ ys) (more ++ less)
+  offered_next {a} {b} {c} {l} {m} {n} {process} {xs} {ys} {more} {less} adds h k = record {
     follows = follows_next h.follows k.follows;
-    moves = gains_next a b c (sends_part rs more) (sends_part rs less) (sends_part rs (more ++ less)) (sends_append rs more less) h.moves k.moves;
+    moves = moves_next a b c l m n (sends_part rs more) (sends_part rs less) (sends_part rs (more ++ less)) adds (sends_append rs more less) h.moves k.moves;
     keyed = All-append (SendKeyed c) more less (All-weaker (SendKeyed b) (SendKeyed c) (send_keyed k.follows) more h.keyed) k.keyed;
     same = map-append (λ (s : Sending). s.sender) more less ∙ ((λ i. h.same i ++ k.same i) ∙ sym (flat_map-append _ xs ys));
     answered = All-append (λ (s : Sending). s.rows ≡ flat_map (asked_in says s.sender s.group) all) more less h.answered k.answered;
@@ -123,16 +130,16 @@ pub one_sender : (p : ℕ) (s : SendOffer) (w : ℕ) → s.wire ≡ Some w → s
 one_sender p s w is = ap (λ (o : Option ℕ). option_map_or (λ wire. sender p s wire ∷ []) o [] ++ []) is
 
 module _ (says : Verdicts) (all : List Kept) (rs : List Receiving) (a b c : GroupsView) (s : Sending) where
-  pub speaks : Follows a b → SameTallies a b → SendKeyed b s → Follows b c → Moves b c nothing (send_part rs s) → s.rows ≡ flat_map (asked_in says s.sender s.group) all → Speaks says all rs a c s
-  speaks f tallies key h moves rows = record {
+  pub speaks : (less : ℕ → Tally) → Follows a b → SameTallies a b → SendKeyed b s → Follows b c → Moves b c less (send_part rs s) → s.rows ≡ flat_map (asked_in says s.sender s.group) all → Speaks says all rs a c less s
+  speaks less f tallies key h moves rows = record {
     follows = follows_next f h;
-    moves = moves_same a b c nothing (send_part rs s) tallies moves;
+    moves = moves_same a b c less (send_part rs s) tallies moves;
     keyed = send_keyed h s key;
     answered = rows;
   }
 
-module _ (says : Verdicts) (all : List Kept) (rs : List Receiving) (a c : GroupsView) (p : ℕ) (offer : SendOffer) where
-  pub offered_one : (w : ℕ) (s : Sending) → offer.wire ≡ Some w → s.sender ≡ sender p offer w → Speaks says all rs a c s → Offered says all rs a c p (offer ∷ []) (s ∷ [])
+module _ (says : Verdicts) (all : List Kept) (rs : List Receiving) (a c : GroupsView) (less : ℕ → Tally) (p : ℕ) (offer : SendOffer) where
+  pub offered_one : (w : ℕ) (s : Sending) → offer.wire ≡ Some w → s.sender ≡ sender p offer w → Speaks says all rs a c less s → Offered says all rs a c less p (offer ∷ []) (s ∷ [])
   offered_one w s wire same h = record {
     follows = h.follows;
     moves = λ g. let m = h.moves g in record {
@@ -148,7 +155,7 @@ module _ (says : Verdicts) (all : List Kept) (rs : List Receiving) (a c : Groups
     answered = All-cons (λ (s : Sending). s.rows ≡ flat_map (asked_in says s.sender s.group) all) s [] h.answered (All-nil (λ (s : Sending). s.rows ≡ flat_map (asked_in says s.sender s.group) all));
   }
 
-  pub offered_nowhere : offer.wire ≡ None → Offered says all rs a a p (offer ∷ []) []
+  pub offered_nowhere : offer.wire ≡ None → Offered says all rs a a nothing p (offer ∷ []) []
   offered_nowhere none = record {
     follows = follows_same a;
     moves = moves_none a;
@@ -159,8 +166,8 @@ module _ (says : Verdicts) (all : List Kept) (rs : List Receiving) (a c : Groups
 
 -- A receive
 
-module _ (a c : GroupsView) (p : ℕ) (offer : ReceiveOffer) where
-  pub heard_one : (w : ℕ) (r : Receiving) → offer.wire ≡ Some w → r.receiver ≡ receiver p offer w → Listens a c r → Heard a c p (offer ∷ []) (r ∷ [])
+module _ (a c : GroupsView) (less : ℕ → Tally) (p : ℕ) (offer : ReceiveOffer) where
+  pub heard_one : (w : ℕ) (r : Receiving) → offer.wire ≡ Some w → r.receiver ≡ receiver p offer w → Listens a c less r → Heard a c less p (offer ∷ []) (r ∷ [])
   heard_one w r wire same h = record {
     follows = h.follows;
     moves = λ g. let m = h.moves g in record {
@@ -175,7 +182,7 @@ module _ (a c : GroupsView) (p : ℕ) (offer : ReceiveOffer) where
     same = ap (λ (x : Receiver). x ∷ []) same ∙ sym (ap (λ (o : Option ℕ). option_map_or (λ wire. receiver p offer wire ∷ []) o [] ++ []) wire);
   }
 
-  pub heard_nowhere : offer.wire ≡ None → Heard a a p (offer ∷ []) []
+  pub heard_nowhere : offer.wire ≡ None → Heard a a nothing p (offer ∷ []) []
   heard_nowhere none = record {
     follows = follows_same a;
     moves = moves_none a;

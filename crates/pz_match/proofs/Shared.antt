@@ -56,7 +56,7 @@ module _ (all : List Kept) (p c : ℕ) (y : Kept) where
         get_or-take 64 (drop (64 * c) all) (p - 64 * c) d (omega (arith, within.0, within.1)) ∙ (get_or-drop (64 * c) all (p - 64 * c) d ∙ ap (λ n. get_or all n d) at)
 
 -- what is in the block of this process
-block_total : (g c p : ℕ) (all : List Kept) (x y : Kept) → p < length all → x ≡ get_or all p x
+pub block_total : (g c p : ℕ) (all : List Kept) (x y : Kept) → p < length all → x ≡ get_or all p x
     → Close (plus (total_of (block_of c (set all p y)) g) (pick (nat_eq (p / 64) c) (part_of x g))) (plus (total_of (block_of c all) g) (pick (nat_eq (p / 64) c) (part_of y g)))
 block_total g c p all x y lt is = by (nat_eq (p / 64) c) refl
   where

@@ -75,15 +75,11 @@ none_gathered g s key senders places k on none (r ∷ rs) keyed gathered =
     by false same c asks = refl
 
 module _ (p : ℕ) (g0 : GroupsView) (all : List Kept) (holds : Holds g0 all) where
-  pub sends_within : (e : Kept) → slice_get all p ≡ Some e → All (λ (s : Sending). s.group < length g0.groups) e.sends
-  sends_within e is =
-      let ok : Sound g0 all e = subst (Sound g0 all) (get_or_from_slice_get all p e e is) (holds.sound p e (slice_get_within all p e is)) in
-      All-weaker (SendKeyed g0) (λ (s : Sending). s.group < length g0.groups) (send_within g0) e.sends ok.sends_keyed
+  pub sends_keyed : (e : Kept) → slice_get all p ≡ Some e → All (SendKeyed g0) e.sends
+  sends_keyed e is = (subst (Sound g0 all) (get_or_from_slice_get all p e e is) (holds.sound p e (slice_get_within all p e is))).sends_keyed
 
-  pub receives_within : (e : Kept) → slice_get all p ≡ Some e → All (λ (r : Receiving). r.group < length g0.groups) e.receives
-  receives_within e is =
-      let ok : Sound g0 all e = subst (Sound g0 all) (get_or_from_slice_get all p e e is) (holds.sound p e (slice_get_within all p e is)) in
-      All-weaker (ReceiveKeyed g0) (λ (r : Receiving). r.group < length g0.groups) (receive_within g0) e.receives ok.receives_keyed
+  pub receives_keyed : (e : Kept) → slice_get all p ≡ Some e → All (ReceiveKeyed g0) e.receives
+  receives_keyed e is = (subst (Sound g0 all) (get_or_from_slice_get all p e e is) (holds.sound p e (slice_get_within all p e is))).receives_keyed
 
   -- of the others
   pub rest_keyed : (g : GroupsView) → Follows g0 g → All (λ (e : Kept). All (ReceiveKeyed g) e.receives) (set all p (silent p))

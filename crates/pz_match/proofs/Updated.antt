@@ -9,13 +9,14 @@ use Rattle.pz_offer.specs.declared.ends.SendOffer.{SendOffer}
 use Rattle.pz_offer.specs.declared.ends.ReceiveOffer.{ReceiveOffer}
 use Rattle.pz_match.specs.declared.offers.Sender.{Sender}
 use Rattle.pz_match.specs.declared.offers.Receiver.{Receiver}
+use Rattle.pz_match.specs.declared.groups.Tally.{Tally}
 use Rattle.pz_match.specs.declared.kept.Sending.{Sending}
 use Rattle.pz_match.specs.declared.kept.Receiving.{Receiving}
 use Rattle.pz_match.specs.Offers.{senders, receivers, sender, receiver}
 use Rattle.pz_match.specs.Judging.{Verdicts}
 use Rattle.pz_match.specs.declared.kept.Offers.{Offers}
 use Rattle.pz_match.specs.devices.Kept.{Kept, kept}
-use Rattle.pz_match.specs.devices.Tallies.{GroupsView, Follows, Moves, Alike, tally_at, nothing, receives_part, part_of, total_of}
+use Rattle.pz_match.specs.devices.Tallies.{GroupsView, Follows, Moves, Alike, tally_at, plus, receives_part, part_of, total_of}
 use Rattle.pz_match.specs.devices.Holding.{Holds, SendKeyed, ReceiveKeyed}
 use Rattle.pz_match.specs.devices.Updating.{Heard, Offered, Replaced, Covers, renewed_in, silent, other_offers}
 use Rattle.pz_match.proofs.Sought.{numbered_at}
@@ -43,9 +44,9 @@ receivers_own p (r ∷ rs) = by r.wire (receivers_own p rs)
     by None later = later
     by (Some w) later = All-cons (λ (x : Receiver). x.end.process ≡ p) (receiver p r w) (receivers p rs) refl later
 
--- after what the process offered is withdrawn
-module _ (p : ℕ) (g0 g1 : GroupsView) (all : List Kept) (old : Kept) (within : p < length all) (is : old ≡ get_or all p old) (holds : Holds g0 all) (moves : Moves g0 g1 (part_of old) nothing) where
-  pub tallied_without : (g : ℕ) → Alike (tally_at g1.groups g) (total_of (set all p (silent p)) g)
+-- after what the process offered is withdrawn, but for what stays
+module _ (p : ℕ) (g0 g1 : GroupsView) (all : List Kept) (old : Kept) (sp rp : ℕ → Tally) (within : p < length all) (is : old ≡ get_or all p old) (holds : Holds g0 all) (moves : Moves g0 g1 (part_of old) (λ g. plus (sp g) (rp g))) where
+  pub tallied_without : (g : ℕ) → Alike (tally_at g1.groups g) (plus (total_of (set all p (silent p)) g) (plus (sp g) (rp g)))
   tallied_without g =
       let t = holds.tallied g in let m = moves g in let s = total_set g all p old (silent p) within is in
       record {
@@ -57,13 +58,13 @@ module _ (p : ℕ) (g0 g1 : GroupsView) (all : List Kept) (old : Kept) (within :
         troubles = omega (arith, t.troubles, m.troubles, s.troubles);
       }
 
-  pub covers_heard : (g2 : GroupsView) (heard : List Receiving) → Moves g1 g2 nothing (receives_part heard) → Covers g2 (set all p (silent p))
+  pub covers_heard : (g2 : GroupsView) (heard : List Receiving) → Moves g1 g2 rp (receives_part heard) → Covers g2 (set all p (silent p))
   covers_heard g2 heard more g = let t = (tallied_without g).asking in let m = (more g).asking in omega (arith, t, m)
 
-module _ (says : Verdicts) (p : ℕ) (sends : List SendOffer) (receives : List ReceiveOffer) (g0 g1 g2 g3 g4 : GroupsView) (all : List Kept) (old : Kept) (sent : List Sending) (heard : List Receiving)
+module _ (says : Verdicts) (p : ℕ) (sends : List SendOffer) (receives : List ReceiveOffer) (g0 g1 g2 g3 g4 : GroupsView) (all : List Kept) (old : Kept) (sent : List Sending) (heard : List Receiving) (sp rp : ℕ → Tally)
     (within : p < length all) (is : old ≡ get_or all p old) (holds : Holds g0 all)
-    (follows : Follows g0 g1) (moves : Moves g0 g1 (part_of old) nothing)
-    (h : Heard g1 g2 p receives heard) (o : Offered says (set all p (silent p)) heard g2 g3 p sends sent)
+    (follows : Follows g0 g1) (moves : Moves g0 g1 (part_of old) (λ g. plus (sp g) (rp g)))
+    (h : Heard g1 g2 rp p receives heard) (o : Offered says (set all p (silent p)) heard g2 g3 sp p sends sent)
     (renew_follows : Follows g3 g4) (renew_moves : Moves g3 g4 (total_of (set all p (silent p))) (total_of (map (renewed_in says p heard) (set all p (silent p))))) where
   mid : List Kept
   mid = map (renewed_in says p heard) (set all p (silent p))
@@ -84,7 +85,7 @@ module _ (says : Verdicts) (p : ℕ) (sends : List SendOffer) (receives : List R
 
   tallied : (g : ℕ) → Alike (tally_at g4.groups g) (total_of (other_offers says p sent heard all) g)
   tallied g =
-      let t1 = tallied_without p g0 g1 all old within is holds moves g in
+      let t1 = tallied_without p g0 g1 all old sp rp within is holds moves g in
       let t2 = h.moves g in let t3 = o.moves g in let t4 = renew_moves g in
       let last = total_set g (map (renewed_in says p heard) (set all p (silent p))) p (renewed_in says p heard (silent p)) (record { process = p; sends = sent; receives = heard })
       (omega (arith, within, length-set all p (silent p), length-map (set all p (silent p)) (renewed_in says p heard))) empty_there in

@@ -5,6 +5,8 @@ pub mod Asking
 pub mod Holding
 pub mod Seeking
 pub mod Updating
+pub mod Again
+pub mod Staying
 pub mod Tables
 pub mod Ordering
 pub mod Users

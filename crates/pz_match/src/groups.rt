@@ -31,7 +31,7 @@ impl Sort {
 }
 
 /// How much a group has.
-#[derive(Clone, Copy)]
+#[derive(Clone, Copy, PartialEq, Eq)]
 pub(crate) struct Tally {
     pub(crate) sends: u64,
     /// Receives without a condition.

@@ -1,37 +1,52 @@
 // The receives that a process offers now.
 
-ghost use Rattle.std.specs.Prelude.{◌≡◌, ℕ, [], ◌∷◌, ◌++◌, Contains, IfOk, OnOk};
+ghost use Rattle.std.specs.Prelude.{◌≡◌, ℕ, [], ◌∷◌, ◌++◌, Contains, IfOk, IfSome, OnOk};
 ghost use Rattle.std.specs.Option.{option_to_list};
+ghost use Rattle.pz_match.specs.devices.Again.{Beside};
+ghost use Rattle.pz_match.specs.devices.Staying.{MayReceive, stay_part, stays_part};
+ghost use Rattle.pz_match.specs.devices.Tallies.{HasKey};
 ghost use Rattle.pz_match.specs.devices.Updating.{Heard, Listens};
 ghost use Rattle.pz_match.specs.devices.Users.{Gathered};
 
 use crate::groups::Groups;
-use crate::kept::Receiving;
+use crate::kept::{Receiving, Stay};
 use crate::offers::Receiver;
+use crate::planning::seat;
 use crate::tallying::add_receive;
 use crate::users::Users;
 use pz_match_lists::{Lists, Numbers};
 use pz_offer::{End, ReceiveOffer};
 use std::alloc::AllocError;
 
-/// The group of a receive, which has one more. The only error is want of memory.
-fn join(groups: &mut Groups, receiver: &Receiver) -> Result<usize, AllocError>
-    ensures { IfOk result (λ g. Listens groups.old groups.new
+/// The group of a receive, which has one more, if it does not stay there. The only error is want of
+/// memory.
+fn join(groups: &mut Groups, receiver: &Receiver, stay: Option<Stay>) -> Result<usize, AllocError>
+    requires { IfSome stay (λ s. HasKey groups.old.groups s.group receiver.now.wire
+        receiver.now.message receiver.now.count) }
+    ensures { IfOk result (λ g. Listens groups.old groups.new (stay_part stay)
         (record { receiver = receiver.now; group = g })) }
 {
-    let group = groups.number(receiver.wire, &receiver.message, receiver.count)?;
-    add_receive(groups, group, receiver.conditional)?;
-    Ok(group)
+    let seat = seat(
+        groups,
+        stay,
+        receiver.wire,
+        &receiver.message,
+        receiver.count,
+    )?;
+    add_receive(groups, seat, receiver.conditional)?;
+    Ok(seat.group)
 }
 
-/// A receive as it is kept, if it reaches a wire: its group has one more. The only error is want of
-/// memory.
+/// A receive as it is kept, if it reaches a wire: its group has one more, if it does not stay there. The
+/// only error is want of memory.
 fn hear_one(
     groups: &mut Groups,
     process: u32,
     offer: ReceiveOffer,
+    stay: Option<Stay>,
 ) -> Result<Option<Receiving>, AllocError>
-    ensures { IfOk result (λ r. Heard groups.old groups.new process (offer ∷ [])
+    requires { MayReceive groups.old stay offer }
+    ensures { IfOk result (λ r. Heard groups.old groups.new (stay_part stay) process (offer ∷ [])
         (option_to_list r)) }
 {
     let Some(wire) = offer.wire else {
@@ -47,7 +62,7 @@ fn hear_one(
         count: offer.count,
         conditional: offer.conditional,
     };
-    let group = join(groups, &receiver)?;
+    let group = join(groups, &receiver, stay)?;
     Ok(Some(Receiving { receiver, group }))
 }
 
@@ -66,14 +81,19 @@ fn hear(
     groups: &mut Groups,
     process: u32,
     offers: Vec<ReceiveOffer>,
+    plan: &[Option<Stay>],
     kept: &mut Vec<Receiving>,
 ) -> Result<(), AllocError>
-    requires { kept.old.items ≡ [] }
-    ensures { OnOk result (Heard groups.old groups.new process offers.items kept.new.items) }
+    requires empty { kept.old.items ≡ [] }
+    requires may { Beside (MayReceive groups.old) plan.now offers.items }
+    ensures { OnOk result (Heard groups.old groups.new (stays_part plan.now) process offers.items
+        kept.new.items) }
 {
+    let mut at = 0;
     for offer in offers {
-        let receive = hear_one(groups, process, offer)?;
+        let receive = hear_one(groups, process, offer, plan[at])?;
         keep(kept, receive)?;
+        at += 1;
     }
     Ok(())
 }
@@ -104,13 +124,16 @@ pub(crate) fn listen(
     places: &mut Numbers,
     process: u32,
     offers: Vec<ReceiveOffer>,
+    plan: &[Option<Stay>],
     kept: &mut Vec<Receiving>,
 ) -> Result<(), AllocError>
-    requires { kept.old.items ≡ [] }
-    ensures heard { OnOk result (Heard groups.old groups.new process offers.items kept.new.items) }
+    requires empty { kept.old.items ≡ [] }
+    requires may { Beside (MayReceive groups.old) plan.now offers.items }
+    ensures heard { OnOk result (Heard groups.old groups.new (stays_part plan.now) process
+        offers.items kept.new.items) }
     ensures keeps { (n : ℕ) → Contains places.old n → Contains places.new n }
     ensures gathered { OnOk result (Gathered users.now.senders places.new kept.new.items) }
 {
-    hear(groups, process, offers, kept)?;
+    hear(groups, process, offers, plan, kept)?;
     gather(&users.senders, kept.as_slice(), places)
 }

@@ -1,3 +1,4 @@
+use crate::groups::Tally;
 use crate::offers::{Receiver, Sender};
 use crate::rows::Rows;
 
@@ -26,4 +27,11 @@ pub(crate) struct Offers {
     pub(crate) process: u32,
     pub(crate) sends: Vec<Sending>,
     pub(crate) receives: Vec<Receiving>,
+}
+
+/// What an offer that stays in its group counts there.
+#[derive(Clone, Copy)]
+pub(crate) struct Stay {
+    pub(crate) group: usize,
+    pub(crate) tally: Tally,
 }

@@ -1,6 +1,8 @@
 //! The pairs of sends and receives that fit, kept while the offers of processes come and go.
 #![tactic(auto)]
 
+mod again;
+mod altering;
 mod asking;
 mod finding;
 mod groups;
@@ -11,6 +13,7 @@ mod offering;
 mod offers;
 mod pairs;
 mod places;
+mod planning;
 mod renewing;
 mod rows;
 mod seeking;

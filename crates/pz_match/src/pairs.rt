@@ -1,11 +1,12 @@
+use crate::altering::alter;
 use crate::groups::Groups;
 use crate::judge::Judge;
 use crate::kept::Offers;
 use crate::offers::Sender;
+use crate::planning::Plan;
 use crate::rows::Spare;
 use crate::seeking::{find_trouble, pair_on};
-use crate::sharing::{Way, shift};
-use crate::updating::{replace_in, silence};
+use crate::updating::silence;
 use crate::users::Users;
 use pz_match_lists::{Numbers, Shares};
 use pz_offer::{End, ReceiveOffer, SendOffer, Trouble};
@@ -22,6 +23,8 @@ pub struct Pairs {
     shares: Shares,
     /// The places of the processes whose sends an update asks about: room for the next one.
     places: Numbers,
+    /// What stays at an update: room for the next one.
+    plan: Plan,
     /// Rows of sends that are gone: room for those that come.
     spare: Spare,
     lost: bool,
@@ -66,6 +69,7 @@ impl Pairs {
             users: Users::new(alloc),
             shares: Shares::new(alloc),
             places: Numbers::new(alloc),
+            plan: Plan::new(alloc),
             spare: Spare::new(alloc),
             lost: false,
         })
@@ -109,21 +113,19 @@ impl Pairs {
         ensures lost { OnErr result (self.new.lost ≡ true) }
     {
         self.lost = true;
-        self.users
-            .note(process, sends.as_slice(), receives.as_slice())?;
-        shift(&mut self.shares, self.offers.as_slice(), process, Way::Off)?;
-        replace_in(
+        alter(
             &mut self.offers,
             &mut self.groups,
-            &self.users,
+            &mut self.users,
+            &mut self.shares,
             &mut self.places,
+            &mut self.plan,
             &mut self.spare,
             process,
             sends,
             receives,
             judge,
         )?;
-        shift(&mut self.shares, self.offers.as_slice(), process, Way::On)?;
         self.lost = false;
         Ok(())
     }

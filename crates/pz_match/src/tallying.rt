@@ -6,7 +6,7 @@ ghost use Rattle.pz_match.specs.devices.Tallies.{Follows, Moves, nothing, only_i
 ghost use Rattle.pz_match.specs.devices.Seeking.{wants};
 
 use crate::groups::{Groups, NOTHING, Sort, Tally};
-use crate::kept::{Receiving, Sending};
+use crate::kept::{Receiving, Sending, Stay};
 use crate::rows::Row;
 use std::alloc::AllocError;
 
@@ -54,6 +54,9 @@ pub(crate) fn adjust(
         (only_in number more)) }
     ensures count { OnOk result (length groups.new.groups ≡ length groups.old.groups) }
 {
+    if less == more {
+        return Ok(());
+    }
     let Some(both) = groups.tally(number).plus(more) else {
         return Err(AllocError);
     };
@@ -113,31 +116,34 @@ pub(crate) fn withdraw_receives(
     Ok(())
 }
 
-/// One more receive, with a condition or without. The only error is want of memory.
+/// A receive, with a condition or without, in place of what it counts already. The only error is want of
+/// memory.
 pub(crate) fn add_receive(
     groups: &mut Groups,
-    group: usize,
+    seat: Stay,
     conditional: bool,
 ) -> Result<(), AllocError>
-    requires { group < length groups.old.groups }
+    requires { seat.group < length groups.old.groups }
     ensures follows { OnOk result (Follows groups.old groups.new) }
-    ensures moves { OnOk result (Moves groups.old groups.new nothing
-        (only_in group (receive_tally conditional))) }
+    ensures moves { OnOk result (Moves groups.old groups.new (only_in seat.group seat.tally)
+        (only_in seat.group (receive_tally conditional))) }
 {
-    adjust(groups, group, NOTHING, receive_tally(conditional))
+    adjust(groups, seat.group, seat.tally, receive_tally(conditional))
 }
 
-/// One more send, with these rows, of a process with these receives. The only error is want of memory.
+/// A send, with these rows, of a process with these receives, in place of what it counts already. The only
+/// error is want of memory.
 pub(crate) fn add_send(
     groups: &mut Groups,
-    group: usize,
+    seat: Stay,
     rows: &[Row],
     receives: &[Receiving],
 ) -> Result<(), AllocError>
-    requires { group < length groups.old.groups }
+    requires { seat.group < length groups.old.groups }
     ensures follows { OnOk result (Follows groups.old groups.new) }
-    ensures moves { OnOk result (Moves groups.old groups.new nothing
-        (only_in group (send_tally receives.now group rows.now))) }
+    ensures moves { OnOk result (Moves groups.old groups.new (only_in seat.group seat.tally)
+        (only_in seat.group (send_tally receives.now seat.group rows.now))) }
 {
-    adjust(groups, group, NOTHING, send_tally(group, rows, receives))
+    let tally = send_tally(seat.group, rows, receives);
+    adjust(groups, seat.group, seat.tally, tally)
 }

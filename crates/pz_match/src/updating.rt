@@ -5,9 +5,11 @@ ghost use Rattle.pz_match.specs.Offers.{senders, receivers};
 ghost use Rattle.pz_match.specs.Judging.{MayTake, Stays};
 ghost use Rattle.pz_match.specs.devices.Lists.{upto};
 ghost use Rattle.pz_match.specs.devices.Kept.{kept};
-ghost use Rattle.pz_match.specs.devices.Tallies.{Distinct, Follows, Moves, nothing, part_of};
+ghost use Rattle.pz_match.specs.devices.Tallies.{Distinct, Follows, Moves, part_of};
 ghost use Rattle.pz_match.specs.devices.Asking.{all_written};
-ghost use Rattle.pz_match.specs.devices.Holding.{Holds};
+ghost use Rattle.pz_match.specs.devices.Again.{Beside};
+ghost use Rattle.pz_match.specs.devices.Holding.{Holds, ReceiveKeyed, SendKeyed};
+ghost use Rattle.pz_match.specs.devices.Staying.{MayReceive, MaySend, planned};
 ghost use Rattle.pz_match.specs.devices.Users.{Gathered, HaveAskers, HaveUsers};
 ghost use Rattle.pz_match.specs.devices.Updating.{Replaced, senders_of, receivers_of, silent};
 
@@ -16,9 +18,9 @@ use crate::hearing::{gather, listen};
 use crate::judge::Judge;
 use crate::kept::{Offers, Receiving, Sending};
 use crate::offering::offer;
+use crate::planning::{Plan, part_receives, part_sends};
 use crate::renewing::renew_all;
 use crate::rows::Spare;
-use crate::tallying::{withdraw_receives, withdraw_sends};
 use crate::users::Users;
 use pz_match_lists::Numbers;
 use pz_offer::{ReceiveOffer, SendOffer};
@@ -46,20 +48,29 @@ fn clear(spare: &mut Spare, sends: &mut Vec<Sending>) -> Result<(), AllocError>
 }
 
 /// Takes away all that a process offers, and gathers the places of the processes whose sends its
-/// receives may have answered. The only error is want of memory.
+/// receives may have answered. What stays as the process offers these is planned, and counts on in its
+/// groups. The only error is want of memory.
 fn withdraw(
     alloc: Global,
     spare: &mut Spare,
     groups: &mut Groups,
     users: &Users,
     places: &mut Numbers,
+    plan: &mut Plan,
     offers: &mut Offers,
+    new_sends: &[SendOffer],
+    new_receives: &[ReceiveOffer],
 ) -> Result<Room, AllocError>
-    requires sends { All (λ s. s.group < length groups.old.groups) offers.old.sends.items }
-    requires receives { All (λ r. r.group < length groups.old.groups) offers.old.receives.items }
+    requires sends { All (SendKeyed groups.old) offers.old.sends.items }
+    requires receives { All (ReceiveKeyed groups.old) offers.old.receives.items }
     ensures silent { OnOk result (kept offers.new ≡ silent offers.old.process) }
     ensures follows { OnOk result (Follows groups.old groups.new) }
-    ensures moves { OnOk result (Moves groups.old groups.new (part_of (kept offers.old)) nothing) }
+    ensures moves { OnOk result (Moves groups.old groups.new (part_of (kept offers.old))
+        (planned plan.new.sends.items plan.new.receives.items)) }
+    ensures may_send { OnOk result (Beside (MaySend groups.new) plan.new.sends.items
+        new_sends.now) }
+    ensures may_receive { OnOk result (Beside (MayReceive groups.new) plan.new.receives.items
+        new_receives.now) }
     ensures sends_room { IfOk result (λ room. room.sends.items ≡ []) }
     ensures receives_room { IfOk result (λ room. room.receives.items ≡ []) }
     ensures gathered { OnOk result (Gathered users.now.senders places.new
@@ -67,8 +78,19 @@ fn withdraw(
 {
     places.clear();
     gather(&users.senders, offers.receives.as_slice(), places)?;
-    withdraw_sends(groups, offers.sends.as_slice(), offers.receives.as_slice())?;
-    withdraw_receives(groups, offers.receives.as_slice())?;
+    part_sends(
+        groups,
+        &mut plan.sends,
+        offers.sends.as_slice(),
+        offers.receives.as_slice(),
+        new_sends,
+    )?;
+    part_receives(
+        groups,
+        &mut plan.receives,
+        offers.receives.as_slice(),
+        new_receives,
+    )?;
     let mut sends = mem::replace(&mut offers.sends, Vec::new(alloc));
     let mut receives = mem::replace(&mut offers.receives, Vec::new(alloc));
     clear(spare, &mut sends)?;
@@ -83,6 +105,7 @@ pub(crate) fn replace<J: Judge>(
     groups: &mut Groups,
     users: &Users,
     places: &mut Numbers,
+    plan: &mut Plan,
     spare: &mut Spare,
     process: u32,
     sends: Vec<SendOffer>,
@@ -106,12 +129,32 @@ pub(crate) fn replace<J: Judge>(
 {
     let place = process as usize;
     let alloc = *sends.allocator();
-    let room = withdraw(alloc, spare, groups, users, places, &mut all[place])?;
+    let room = withdraw(
+        alloc,
+        spare,
+        groups,
+        users,
+        places,
+        plan,
+        &mut all[place],
+        sends.as_slice(),
+        receives.as_slice(),
+    )?;
     let Room {
         sends: mut sent,
         receives: mut heard,
     } = room;
-    listen(groups, users, places, process, receives, &mut heard)?;
+    let still_heard = plan.receives.as_slice();
+    listen(
+        groups,
+        users,
+        places,
+        process,
+        receives,
+        still_heard,
+        &mut heard,
+    )?;
+    let still_sent = plan.sends.as_slice();
     offer(
         spare,
         groups,
@@ -120,6 +163,7 @@ pub(crate) fn replace<J: Judge>(
         process,
         heard.as_slice(),
         sends,
+        still_sent,
         &mut sent,
         judge,
     )?;
@@ -152,6 +196,7 @@ pub(crate) fn replace_in<J: Judge>(
     groups: &mut Groups,
     users: &Users,
     places: &mut Numbers,
+    plan: &mut Plan,
     spare: &mut Spare,
     process: u32,
     sends: Vec<SendOffer>,
@@ -172,14 +217,12 @@ pub(crate) fn replace_in<J: Judge>(
     ensures asked { OnOk result (J.asked judge.new ≡ J.asked judge.old + all_written process
         (map kept all.new.items)) }
     ensures lent { J.lent judge.new ≡ J.lent judge.old }
-    ensures within_old { All (λ x. x.wire < groups.old.wires) groups.old.groups }
     ensures within { OnOk result (All (λ x. x.wire < groups.new.wires) groups.new.groups) }
     ensures distinct { OnOk result (Distinct groups.new.groups) }
 {
-    groups.are_distinct();
     let slice = all.as_mut_slice();
     replace(
-        slice, groups, users, places, spare, process, sends, receives, judge,
+        slice, groups, users, places, plan, spare, process, sends, receives, judge,
     )?;
     groups.are_distinct();
     Ok(())

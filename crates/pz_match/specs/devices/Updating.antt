@@ -5,39 +5,40 @@ use Rattle.pz_offer.specs.declared.ends.SendOffer.{SendOffer}
 use Rattle.pz_offer.specs.declared.ends.ReceiveOffer.{ReceiveOffer}
 use Rattle.pz_match.specs.declared.offers.Sender.{Sender}
 use Rattle.pz_match.specs.declared.offers.Receiver.{Receiver}
+use Rattle.pz_match.specs.declared.groups.Tally.{Tally}
 use Rattle.pz_match.specs.declared.kept.Sending.{Sending}
 use Rattle.pz_match.specs.declared.kept.Receiving.{Receiving}
 use Rattle.pz_match.specs.Offers.{senders, receivers}
 use Rattle.pz_match.specs.Judging.{Verdicts}
 use Rattle.pz_match.specs.devices.Kept.{Kept, asks_in, rows_at}
-use Rattle.pz_match.specs.devices.Tallies.{GroupsView, Follows, Moves, nothing, tally_at, send_part, sends_part, receive_part, receives_part, total_of}
+use Rattle.pz_match.specs.devices.Tallies.{GroupsView, Follows, Moves, tally_at, send_part, sends_part, receive_part, receives_part, total_of}
 use Rattle.pz_match.specs.devices.Asking.{asked_in, renewed}
 use Rattle.pz_match.specs.devices.Holding.{SendKeyed, ReceiveKeyed, Holds}
 
--- a receive is in its group
-pub record Listens (old new : GroupsView) (r : Receiving) : Type 0 where
+-- a receive is in its group, in place of what it counted already
+pub record Listens (old new : GroupsView) (less : ℕ → Tally) (r : Receiving) : Type 0 where
   pub follows : Follows old new
-  pub moves : Moves old new nothing (receive_part r)
+  pub moves : Moves old new less (receive_part r)
   pub keyed : ReceiveKeyed new r
 
--- a send is in its group, with what all receives there say
-pub record Speaks (says : Verdicts) (all : List Kept) (rs : List Receiving) (old new : GroupsView) (s : Sending) : Type 0 where
+-- a send is in its group, in place of what it counted already, with what all receives there say
+pub record Speaks (says : Verdicts) (all : List Kept) (rs : List Receiving) (old new : GroupsView) (less : ℕ → Tally) (s : Sending) : Type 0 where
   pub follows : Follows old new
-  pub moves : Moves old new nothing (send_part rs s)
+  pub moves : Moves old new less (send_part rs s)
   pub keyed : SendKeyed new s
   pub answered : s.rows ≡ flat_map (asked_in says s.sender s.group) all
 
 -- the receives that are offered are kept, each in its group
-pub record Heard (old new : GroupsView) (process : ℕ) (offers : List ReceiveOffer) (more : List Receiving) : Type 0 where
+pub record Heard (old new : GroupsView) (less : ℕ → Tally) (process : ℕ) (offers : List ReceiveOffer) (more : List Receiving) : Type 0 where
   pub follows : Follows old new
-  pub moves : Moves old new nothing (receives_part more)
+  pub moves : Moves old new less (receives_part more)
   pub keyed : All (ReceiveKeyed new) more
   pub same : map (λ r. r.receiver) more ≡ receivers process offers
 
 -- the sends that are offered are kept, each in its group and with what all receives there say
-pub record Offered (says : Verdicts) (all : List Kept) (rs : List Receiving) (old new : GroupsView) (process : ℕ) (offers : List SendOffer) (more : List Sending) : Type 0 where
+pub record Offered (says : Verdicts) (all : List Kept) (rs : List Receiving) (old new : GroupsView) (less : ℕ → Tally) (process : ℕ) (offers : List SendOffer) (more : List Sending) : Type 0 where
   pub follows : Follows old new
-  pub moves : Moves old new nothing (sends_part rs more)
+  pub moves : Moves old new less (sends_part rs more)
   pub keyed : All (SendKeyed new) more
   pub same : map (λ s. s.sender) more ≡ senders process offers
   pub answered : All (λ s. s.rows ≡ flat_map (asked_in says s.sender s.group) all) more

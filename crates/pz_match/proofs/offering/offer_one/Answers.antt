@@ -3,6 +3,7 @@ use Rattle.std.proofs.Common.{refl, sym, subst, List}
 use Rattle.std.specs.Prelude.{map, Contains}
 use Rattle.pz_match.specs.declared.offers.Sender.{Sender}
 use Rattle.pz_match.specs.devices.Kept.{kept}
+use Rattle.pz_match.specs.devices.Staying.{stay_part}
 use Rattle.pz_match.proofs.Offered.{one_sender, offered_one}
 use Rattle.pz_match.proofs.offering.offer_one.Goals as goal
 
@@ -12,4 +13,4 @@ join-requires-clause-takes g c s r sends receives fit conditional =
 
 pub returns-clause-offered : goal.returns-clause-offered
 returns-clause-offered g c =
-    offered_one (g.J.Judge.verdict c.args.judge.now) (map kept c.args.all.now) c.args.receives.now c.args.groups.now c.join.new.groups c.args.process c.args.offer c.in-Some.wire _ c.in-Some.is refl c.in_ok-joined.ensures.speaks
+    offered_one (g.J.Judge.verdict c.args.judge.now) (map kept c.args.all.now) c.args.receives.now c.args.groups.now c.join.new.groups (stay_part c.args.stay) c.args.process c.args.offer c.in-Some.wire _ c.in-Some.is refl c.in_ok-joined.ensures.speaks
