@@ -6,7 +6,7 @@ uses rows_match updates 1 0
 # What stands there before is timed by itself, and taken off.
 times_each=${1:-2000000}
 for receivers in 10 100 1000 10000; do
-  for case in "updates $times_each updates" "again $times_each updates that change nothing" "conditions $times_each updates beside a condition" "askers $times_each updates of a condition" "pairs $times_each pairs sought" "ring $times_each pairs sought on wires of their own"; do
+  for case in "updates $times_each updates" "again $times_each updates that change nothing" "nearly $times_each updates in which one offer of ten changes" "conditions $times_each updates beside a condition" "askers $times_each updates of a condition" "pairs $times_each pairs sought" "ring $times_each pairs sought on wires of their own"; do
     read -r words times what <<<"$case"
     spend "$program" "$words" "$receivers" 0
     begun=$seconds

@@ -34,9 +34,6 @@ module _ {X : Type 0} (f : Kept → List X) where
 send_within : (g : GroupsView) (s : Sending) → SendKeyed g s → s.group < length g.groups
 send_within g s key = slice_get_within g.groups s.group key.group key.there
 
-receive_within : (g : GroupsView) (r : Receiving) → ReceiveKeyed g r → r.group < length g.groups
-receive_within g r key = slice_get_within g.groups r.group key.group key.there
-
 -- one receive more
 
 abbrev gives : List (List ℕ) → List ℕ → Receiving → Type 0

@@ -83,6 +83,30 @@ fn offer_again<L: Ledger>(
     Ok(())
 }
 
+/// So many updates of a process with ten offers of this kind, of which one has another message each time.
+fn change_one<L: Ledger>(
+    alloc: Global,
+    table: &mut Pairs,
+    asker: &mut Asker<L>,
+    process: u32,
+    kind: Kind,
+    times: u32,
+) -> Result<(), AllocError>
+    requires process { process < length table.old.senders }
+    requires there { table.old.lost ≡ false }
+    ensures size { OnOk result (length table.new.senders ≡ length table.old.senders) }
+    ensures there { OnOk result (table.new.lost ≡ false) }
+{
+    let wishes = [on_wire(kind); 10];
+    let mut others = wishes;
+    others[4].second = true;
+    for _ in 0..times / 2 {
+        update(alloc, table, process, &others, asker)?;
+        update(alloc, table, process, &wishes, asker)?;
+    }
+    Ok(())
+}
+
 /// Each process sends over a wire of its own and receives over that of the next.
 fn fill_ring<L: Ledger>(
     alloc: Global,
@@ -148,13 +172,14 @@ fn run<L: Ledger>(
         "pairs" => return seek(table, times),
         "askers" => come_and_go(alloc, table, asker, size, Kind::Asking, times)?,
         "again" => offer_again(alloc, table, asker, 0, Kind::Send, times)?,
+        "nearly" => change_one(alloc, table, asker, 0, Kind::Send, times)?,
         _ => come_and_go(alloc, table, asker, 0, Kind::Send, times)?,
     }
     Ok(times)
 }
 
-/// One of the benches, in a table of so many processes and one: `updates`, `again`, `conditions`, `askers`,
-/// `pairs` or `ring`.
+/// One of the benches, in a table of so many processes and one: `updates`, `again`, `nearly`, `conditions`,
+/// `askers`, `pairs` or `ring`.
 pub fn show<L: Ledger>(
     rt: &HostRuntime,
     table: &mut Pairs,

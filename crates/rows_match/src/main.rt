@@ -8,7 +8,7 @@
 //! and `mixed S` say what conditions say from now on. `random SEED N` does so many random updates, each held
 //! against the pairs that are found plainly; `near SEED N` does such as leave a front and a back of what a
 //! process offers, and `calm SEED N` the same without conditions. `rows_match BENCH N TIMES` is a bench:
-//! `updates`, `again`, `conditions`, `askers`, `pairs` or `ring`.
+//! `updates`, `again`, `nearly`, `conditions`, `askers`, `pairs` or `ring`.
 #![tactic(auto)]
 
 mod asker;
