@@ -15,7 +15,7 @@ use Rattle.pz_run.specs.declared.status.Status.TheVariants.{ModelRefused, TooLon
 use Rattle.pz_run.specs.Files.{JobFile, model_file, files_of}
 use Rattle.pz_run.specs.Status.{status_of}
 use Rattle.pz_run.specs.Output.{PrintsFile, lacks, too_long, reads, PrintsModel, refuses, of_model, PrintsModelFile, PrintsJob, Prints, does}
-use Rattle.pz_run.specs.Promises.{Opens, OpensFiles, OpensLast, HasModel, model_name, IsRefusedFor, IsNoModel, HasModelText, OpensAtOnce, IsTextFor, of_file, HasTrace, HasEnding, RunEnds, IsNoTrace, BreaksWatch, RefusesWatches, RefusesScript, IsBrokenAt, IsNoWatches, IsNoScript}
+use Rattle.pz_run.specs.Promises.{Opens, OpensFiles, OpensLast, HasModel, model_name, IsRefusedFor, IsNoModel, HasModelText, IsTextFor, of_file, HasTrace, HasEnding, RunEnds, IsNoTrace, BreaksWatch, RefusesWatches, RefusesScript, IsBrokenAt, IsNoWatches, IsNoScript}
 use Rattle.pz_run.specs.Promises as promises
 use Rattle.pz_run.specs.devices.Keeping.{KeepsPromises}
 use Rattle.pz_run.specs.devices.TwoFiles.{PrintsClosed, closed, IsOnlyOpen, AnswersFiles, no_model, reads_on}
@@ -61,7 +61,6 @@ pub record TwoFiles (job : Job) (model : List ℕ) (second : JobFile) (P Q : Mod
   pub no_script : (held : Entries) (text : List ℕ) (m : ModelTree) (file : List ℕ) → IsOnlyOpen text m → lookup held second.name ≡ Some file
       → (bytes : List ℕ) (status : Status) → Q m file bytes status → RefusesScript held job text → status ≡ ScriptRefused
   pub untold : (held : Entries) (text : List ℕ) → HasTrace held job text → ⊥
-  pub at_once : OpensAtOnce job
 
 closed_lacks : {X : Type 0} (text bytes : List ℕ) (status : Status) (m : ModelTree) → PrintsClosed text bytes status → IsOpenModelOf text m → X
 closed_lacks text _ _ m (closed r is none) model = absurd (none m model)

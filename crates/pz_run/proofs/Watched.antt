@@ -127,7 +127,6 @@ module _ (model name : List ℕ) (choice : Choice) (limits : RunLimits) where
     no_list = λ held text m file is found bytes status x y. refused_here held text m file is found bytes status x y;
     no_script = λ held text m file is found bytes status x y. undriven held job text tt y.on;
     untold = λ held text x. not_told held text x;
-    at_once = tt;
   }
 
 pub keeps_watch : (f g : FilesState) (before now : SinkState) (given : Status) (model name : List ℕ) (choice : Choice) (limits : RunLimits)
