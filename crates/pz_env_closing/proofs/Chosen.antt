@@ -1,12 +1,12 @@
 -- A run that a policy chooses from the start of a model, whole.
-use Rattle.std.proofs.Common.{◌≡◌, ℕ, List, refl}
+use Rattle.std.proofs.Common.{◌≡◌, List, refl}
 use Rattle.pz_rules.specs.Settings.{Setting}
 use Rattle.pz_rules.specs.Configurations.{Config}
 use Rattle.pz_rules.specs.Starting.{IsStart}
 use Rattle.pz_rules.specs.Runs.{Event, Standing, whole, stopped, Reaches, Ending, ended, deadlocked, troubled, halted, refused, Ends}
 use Rattle.pz_rules.specs.Runs as runs
 use Rattle.pz_rules.specs.ChosenRuns.{Policy, IsChosenRun}
-use Rattle.pz_rules.specs.Laws.{ChosenRunsAreRuns, IsRun, IsOwn}
+use Rattle.pz_rules.specs.Laws.{ChosenRunsAreRuns, IsRun}
 use Rattle.pz_run_playing.specs.Playing.{EndsAs, ChosenRun}
 
 as_it_stands : (setting : Setting) (c : Config) (standing : Standing) (ending : Ending) → Ends setting c standing ending → EndsAs standing ending
@@ -22,9 +22,9 @@ module _ (setting : Setting) (policy : Policy) (start : Config) (is_start : IsSt
   -- with these events, this end and this ending
   pub record Whole (ending : Ending) : Type 0 where
     pub run : ChosenRun setting policy
-    pub events : run.events ≡ events
-    pub end : run.end ≡ end
-    pub ending : run.ending ≡ ending
+    pub same_events : run.events ≡ events
+    pub same_end : run.end ≡ end
+    pub same_ending : run.ending ≡ ending
 
   whole_run : (ending : Ending) → IsChosenRun setting policy 0 start events end ending → IsRun setting start events end ending → Whole ending
   whole_run ending chosen is = record {
@@ -39,9 +39,9 @@ module _ (setting : Setting) (policy : Policy) (start : Config) (is_start : IsSt
       ends_as = as_it_stands setting end is.standing ending is.ends;
       is_chosen = chosen;
     };
-    events = refl;
-    end = refl;
-    ending = refl;
+    same_events = refl;
+    same_end = refl;
+    same_ending = refl;
   }
 
   pub whole_of : ChosenRunsAreRuns → (ending : Ending) → IsChosenRun setting policy 0 start events end ending → Whole ending
@@ -61,7 +61,7 @@ module _ (setting : Setting) (policy : Policy) (start : Config) (is_start : IsSt
       ends_as = tt;
       is_chosen = chosen;
     };
-    events = refl;
-    end = refl;
-    ending = refl;
+    same_events = refl;
+    same_end = refl;
+    same_ending = refl;
   }

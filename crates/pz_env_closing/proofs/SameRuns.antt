@@ -1,5 +1,5 @@
 -- The runs of a closed model and the driven runs.
-use Rattle.std.proofs.Common.{◌≡◌, ◌∙◌, ℕ, List, refl, sym, ap}
+use Rattle.std.proofs.Common.{◌≡◌, ◌∙◌, List, refl, sym, ap}
 use Rattle.pz_syntax.specs.Classes.{ModelTree}
 use Rattle.pz_rules.specs.declared.limits.Limits.{Limits}
 use Rattle.pz_rules.specs.Configurations.{Config}
@@ -19,10 +19,10 @@ use Rattle.pz_env_sound.specs.MayClose.{MayClose}
 use Rattle.pz_env_mimics.specs.Closing.{MayDrive}
 use Rattle.pz_env_mimics.specs.Laws as mimics
 use Rattle.pz_env_joined.specs.Laws.{ClosedTreeCloses}
-use Rattle.pz_env_closing.specs.DrivenRuns.{ChosenDrivenRun, driven_text}
+use Rattle.pz_env_closing.specs.DrivenRuns.{ChosenDrivenRun}
 use Rattle.pz_env_closing.specs.Laws.{closed_setting, IsSameRun, ClosedRunsAreDriven, DrivenRunsAreClosed, OneDrivenEnding}
 use Rattle.pz_env_closing.proofs.Texts.{same_text}
-use Rattle.pz_env_closing.proofs.Chosen.{Whole, whole_of}
+use Rattle.pz_env_closing.proofs.Chosen.{whole_of}
 
 module _ (closes : ClosedTreeCloses) (each_line : mimics.EventLinesAreSame) (end_line : mimics.EndLinesAreSame) where
   pub closed_are_driven : mimics.ChosenClosedAreDriven → ClosedRunsAreDriven
@@ -54,9 +54,9 @@ module _ (closes : ClosedTreeCloses) (each_line : mimics.EventLinesAreSame) (end
         let w = whole_of (closed_setting m script limits) policy x.start x.is_start x.told x.last are driven.ending x.run in (
           w.run,
           record {
-            ending = sym w.ending;
+            ending = sym w.same_ending;
             text = same_text each_line end_line g n is.environment driven.events x.told driven.end.system.clock x.last.clock driven.ending x.same x.clock
-                ∙ same_behind w.run.events x.told w.run.end x.last w.run.ending driven.ending w.events w.end w.ending;
+                ∙ same_behind w.run.events x.told w.run.end x.last w.run.ending driven.ending w.same_events w.same_end w.same_ending;
           },
         )
 

@@ -1,6 +1,6 @@
 -- The text of a driven run, and that of the run of the model that closes the system.
 use Rattle.std.proofs.Common.{◌≡◌, ◌∙◌, ℕ, List, [], ◌∷◌, ◌++◌, refl, sym, ap}
-use Rattle.std.specs.List.{AllZip, flat_map}
+use Rattle.std.specs.List.{flat_map}
 use Rattle.pz_syntax.specs.Classes.{ModelTree}
 use Rattle.pz_rules.specs.Runs.{Event, Ending, ended, deadlocked, troubled, halted, refused}
 use Rattle.pz_trace.specs.declared.ending.Ending.TheVariants.{End, Deadlock, Stop, Trouble}
@@ -10,7 +10,7 @@ use Rattle.pz_run_playing.specs.RunText.{text_under}
 use Rattle.pz_env_rules.specs.Joining.{Driving}
 use Rattle.pz_env_rules.specs.Text.{drive_header, event_line}
 use Rattle.pz_env_mimics.specs.Environments.{HasEnvironment}
-use Rattle.pz_env_mimics.specs.Closing.{SameEvent, SameEvents}
+use Rattle.pz_env_mimics.specs.Closing.{SameEvents}
 use Rattle.pz_env_mimics.specs.Laws.{EventLinesAreSame, EndLinesAreSame}
 use Rattle.pz_env_closing.specs.DrivenRuns.{last_line, driven_text}
 

@@ -5,6 +5,7 @@ ghost use Rattle.pz_syntax.specs.ClassView.{model_view};
 ghost use Rattle.pz_syntax.specs.ModelText.{text, HasFewMarks};
 ghost use Rattle.pz_classes.specs.Soundness.{IsSound};
 ghost use Rattle.pz_classes.specs.CheckedView.{checked_model};
+ghost use Rattle.pz_classes.specs.devices.Rows.{AreClasses};
 ghost use Rattle.pz_classes_openings.specs.OpeningRules.{Opens};
 ghost use Rattle.pz_env_tree.specs.Refusals.{IsFirstRefused};
 ghost use Rattle.pz_env_tree.specs.ClosedTree.{closed_tree};
