@@ -1,21 +1,18 @@
 -- What was said of a run that a script drives.
-use Rattle.std.proofs.Common.{◌≡◌, ◌≢◌, inl, inr, ◌∙◌, ◌≤◌, ◌<◌, ◌^◌, ℕ, List, Result, Ok, Err, length, refl, sym, subst, ap, arith}
+use Rattle.std.proofs.Common.{◌≡◌, inr, ◌∙◌, ◌≤◌, ℕ, List, Result, Ok, Err, refl, sym, subst, ap, arith}
 use Rattle.pz_io.specs.Outside.{SinkState}
 use Rattle.pz_io.specs.declared.writing.Halt.{Halt}
 use Rattle.pz_syntax.specs.Classes.{ModelTree}
 use Rattle.pz_rules.specs.declared.limits.Limits.{Limits}
-use Rattle.pz_rules.specs.Runs.{Ending, ended, deadlocked, troubled, halted, refused}
 use Rattle.pz_trace.specs.declared.forms.Form.TheVariants.{Three}
 use Rattle.pz_trace.specs.Forms.{limits_of}
 use Rattle.pz_env_script.specs.declared.entry.Entry.{Entry}
-use Rattle.pz_env_script.specs.Scripts.{IsScript}
 use Rattle.pz_env_script.specs.Laws.{IsOneScript, IsNeverBoth}
 use Rattle.pz_env_rules.specs.Text.{drive_header}
 use Rattle.pz_env_tree.specs.ClosedTree.{closed_tree}
 use Rattle.pz_env_tree.specs.Refusals.{IsFirstRefused}
 use Rattle.pz_env_sound.specs.MayClose.{MayClose}
 use Rattle.pz_env_mimics.specs.Closing.{MayDrive}
-use Rattle.pz_env_closing.specs.DrivenRuns.{driven_text}
 use Rattle.pz_env_closing.specs.Laws.{ClosedRunsAreDriven, OneDrivenEnding}
 use Rattle.pz_term_simulator.specs.Simulations.{Simulation}
 use Rattle.pz_run_playing.specs.declared.finale.Finale.{Finale}
@@ -24,8 +21,8 @@ use Rattle.pz_run_playing.specs.Playing.{PlaysUnder}
 use Rattle.pz_run_lines.specs.Lines.{script_refused_line}
 use Rattle.pz_run.specs.declared.play.Play.{Play}
 use Rattle.pz_run.specs.declared.status.Status.{Status}
-use Rattle.pz_run.specs.declared.status.Status.TheVariants.{WriteFault, ScriptRefused}
-use Rattle.pz_run.specs.Plays.{setting_for, policy_for, RunOf, driving_for, DrivenRunOf}
+use Rattle.pz_run.specs.declared.status.Status.TheVariants.{ScriptRefused}
+use Rattle.pz_run.specs.Plays.{setting_for, policy_for, DrivenRunOf}
 use Rattle.pz_run.specs.Scripts.{IsScriptFor, IsScriptRefused, malformed, unfit}
 use Rattle.pz_run.specs.Status.{status_of}
 use Rattle.pz_run.specs.Output.{PrintsDriven, no_script, drives}

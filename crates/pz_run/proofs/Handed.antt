@@ -1,5 +1,5 @@
 -- What is handed out, by how a run, a text or a file went.
-use Rattle.std.proofs.Common.{◌≡◌, ◌≢◌, ◌⊎◌, inl, inr, ◌∙◌, ◌<◌, ◌≤◌, ℕ, List, Bool, true, false, Option, Some, None, Result, Ok, Err, length, refl, sym, subst}
+use Rattle.std.proofs.Common.{◌≡◌, ◌⊎◌, inl, inr, ◌∙◌, ◌≤◌, ℕ, List, Bool, true, false, Option, Some, None, Result, Ok, Err, length, refl, sym, subst}
 use Rattle.pz_io.specs.Outside.{Entries, FilesState, SinkState, lookup, Rose, LacksName, FilesFailedLast, Exceeds}
 use Rattle.pz_io.specs.declared.whole.ReadError.{ReadError}
 use Rattle.pz_io.specs.declared.whole.ReadError.TheVariants as unread
@@ -16,7 +16,6 @@ use Rattle.pz_watch.specs.declared.errors.ReadWatchesError.{ReadWatchesError}
 use Rattle.pz_watch.specs.declared.errors.ReadWatchesError.TheVariants as no_list
 use Rattle.pz_env_script.specs.declared.entry.Entry.{Entry}
 use Rattle.pz_env_tree.specs.ClosedTree.{closed_tree}
-use Rattle.pz_words.specs.declared.jobs.Job.{Job}
 use Rattle.pz_term_simulator.specs.Simulations.{Simulation}
 use Rattle.pz_run_playing.specs.declared.finale.Finale.{Finale}
 use Rattle.pz_run_playing.specs.declared.finale.Judged.{Judged}
@@ -32,7 +31,6 @@ use Rattle.pz_run_reading.specs.Answers.{OnRefused}
 use Rattle.pz_run_reading.specs.Openings.{IsOpeningRefusal}
 use Rattle.pz_run_reading.specs.declared.read_error.ReadModelError.{ReadModelError}
 use Rattle.pz_run_reading.specs.declared.read_error.ReadModelError.TheVariants.{NoMemory, Refused}
-use Rattle.pz_run.specs.declared.finish.Finish.{Finish}
 use Rattle.pz_run.specs.declared.play.Play.{Play}
 use Rattle.pz_run.specs.declared.status.Status.{Status}
 use Rattle.pz_run.specs.declared.status.Status.TheVariants as status

@@ -1,24 +1,16 @@
 -- What is said of a run that is judged.
 use Rattle.std.specs.Prelude.{◌≡◌, ℕ, List}
-use Rattle.pz_io.specs.Outside.{FilesState, SinkState}
 use Rattle.pz_syntax.specs.Classes.{ModelTree}
 use Rattle.pz_watch.specs.Files.{NamedFormula, AreWatches, IsRefusedAt}
 use Rattle.pz_watch.specs.Names.{is_identifier}
 use Rattle.pz_watch.specs.Breaking.{AreBroken}
 use Rattle.pz_watch_points.specs.EventPoints.{points_of}
-use Rattle.pz_run_reading.specs.declared.refusal.Refusal.{Refusal}
-use Rattle.pz_run_reading.specs.Openings.{IsOpenModelOf, IsRefusedToOpen}
-use Rattle.pz_run_lines.specs.Lines.{model_refused_line}
 use Rattle.pz_run.specs.declared.play.Play.{Play}
 use Rattle.pz_run.specs.declared.status.Status.{Status}
-use Rattle.pz_run.specs.declared.status.Status.TheVariants.{Done, ModelRefused, WatchBroken, WatchRefused}
-use Rattle.pz_run.specs.Files.{model_file, watch_file}
+use Rattle.pz_run.specs.declared.status.Status.TheVariants.{Done, WatchBroken, WatchRefused}
 use Rattle.pz_run.specs.Plays.{RunOf}
 use Rattle.pz_run.specs.Status.{status_of}
 use Rattle.pz_run.specs.Output.{PrintsJudged}
-use Rattle.pz_run.specs.devices.Saying.{Answers}
-use Rattle.pz_run.specs.devices.Reading.{ReadsFile}
-use Rattle.pz_run.specs.devices.Replaying.{WasRead}
 
 -- what is said of a file of watches, and the one status that goes with it
 pub record PrintsWatches (p : Play) (m : ModelTree) (file bytes : List ℕ) (status : Status) : Type 0 where

@@ -1,7 +1,7 @@
-use Rattle.std.proofs.Common.{ℕ, refl, sym, subst}
+use Rattle.std.proofs.Common.{refl, subst}
 use Rattle.pz_syntax.specs.Classes.{ModelTree}
 use Rattle.pz_classes.specs.CheckedView.{checked_model}
-use Rattle.pz_run.specs.HandedOut.{RunHandsOut}
+use Rattle.pz_run.specs.HandedOut.{RunHandsOut, left_in}
 use Rattle.pz_run.specs.Scripts.{unfit}
 use Rattle.pz_run.specs.devices.Driving.{PrintsClosedRun}
 use Rattle.pz_run.specs.devices.Handing.{Hands}
@@ -12,9 +12,11 @@ use Rattle.pz_run.proofs.driving.drive_script.Goals as goal
 
 pub returns-in-Ok-clause-printed : goal.returns-in-Ok-clause-printed
 returns-in-Ok-clause-printed g c = λ file is.
+    let before = g.W.Sink.state c.args.out.now in
+    let now = g.W.Sink.state c.drive_closed.new.out in
     driven_said c.closed_runs_are_driven.ensures c.args.play c.requires.units (checked_model c.args.checked) file c.args.script c.requires.model
-    (record { is_script = is; fits = c.in-Ok.ensures.only }) _ _ c.drive_closed.result.status
-    (subst (λ (n : ModelTree). Answers (PrintsClosedRun c.args.play n) _ _ c.drive_closed.result.status) c.in-Ok.ensures.tree c.drive_closed.ensures.printed)
+    (record { is_script = is; fits = c.in-Ok.ensures.only }) before now c.drive_closed.result.status
+    (subst (λ (n : ModelTree). Answers (PrintsClosedRun c.args.play n) before now c.drive_closed.result.status) c.in-Ok.ensures.tree c.drive_closed.ensures.printed)
 
 pub returns-in-Err-clause-printed : goal.returns-in-Err-clause-printed
 returns-in-Err-clause-printed g c = λ file is.
@@ -22,8 +24,8 @@ returns-in-Err-clause-printed g c = λ file is.
 
 pub returns-in-Ok-clause-simulator : goal.returns-in-Ok-clause-simulator
 returns-in-Ok-clause-simulator g c = λ file is.
-    driven_hands c.args.play (checked_model c.args.checked) file c.args.script c.drive_closed.result.status _ (record { is_script = is; fits = c.in-Ok.ensures.only })
-    (subst (λ (n : ModelTree). Hands (RunHandsOut c.args.play n) c.drive_closed.result.status _) c.in-Ok.ensures.tree c.drive_closed.ensures.simulator)
+    driven_hands c.args.play (checked_model c.args.checked) file c.args.script c.drive_closed.result.status (left_in c.drive_closed.result) (record { is_script = is; fits = c.in-Ok.ensures.only })
+    (subst (λ (n : ModelTree). Hands (RunHandsOut c.args.play n) c.drive_closed.result.status (left_in c.drive_closed.result)) c.in-Ok.ensures.tree c.drive_closed.ensures.simulator)
 
 pub returns-in-Err-clause-simulator : goal.returns-in-Err-clause-simulator
 returns-in-Err-clause-simulator g c = λ file is.
