@@ -87,6 +87,18 @@ pub fn show(rt: &HostRuntime, job: &Job) -> io::Result<()> {
             show_choice(rt, choice)?;
             show_limits(rt, limits)?;
         }
+        Job::Drive {
+            model,
+            script,
+            choice,
+            limits,
+        } => {
+            let name = model.as_str();
+            let script = script.as_str();
+            print!(rt; "drive {name} {script}")?;
+            show_choice(rt, choice)?;
+            show_limits(rt, limits)?;
+        }
     }
     println!(rt;)
 }
