@@ -78,7 +78,7 @@ fn wire_name(alloc: Global, sites: &[Site], wire: Wire) -> Result<Name, AllocErr
     // Wide enough for one more.
     let number = wire.channel as u128 + 1;
     let name = format!(in alloc; "{path}#{number}")?;
-    Ok(Name::new(name))
+    Name::new(alloc, name.as_str())
 }
 
 /// The names of these wires. The only error is want of memory.

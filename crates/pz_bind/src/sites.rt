@@ -33,7 +33,7 @@ impl<'a> Site<'a> {
         Site {
             class,
             is_system: true,
-            path: Name::new(String::new(alloc)),
+            path: Name::empty(),
             bindings: Bindings::new(alloc),
         }
     }
@@ -57,7 +57,7 @@ impl<'a> Site<'a> {
         let up = self.path.as_str();
         let name = instance.name.name.as_str();
         let path = format!(in alloc; "{up}.{name}")?;
-        Ok(Name::new(path))
+        Name::new(alloc, path.as_str())
     }
 }
 

@@ -24,10 +24,10 @@ fn count_of(statement: &Stmt, most: u32) -> u32
         StmtForm::Par(branches) => plus(1, count_of_each(branches.as_slice(), most), most),
         StmtForm::Sel(branches) => plus(1, count_of_each(branches.as_slice(), most), most),
         StmtForm::If(_, body, other) => {
-            let count = plus(1, count_up_to(body.as_slice(), most), most);
+            let count = plus(1, count_up_to(body.get().as_slice(), most), most);
             match other {
                 None => count,
-                Some(other) => plus(count, count_up_to(other.as_slice(), most), most),
+                Some(other) => plus(count, count_up_to(other.get().as_slice(), most), most),
             }
         }
         StmtForm::While(_, body) => plus(1, count_up_to(body.as_slice(), most), most),

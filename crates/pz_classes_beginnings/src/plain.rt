@@ -36,10 +36,10 @@ fn add_plain_calls_of(out: &mut Items<Id>, statement: &Stmt) -> Result<(), Alloc
         StmtForm::Par(branches) => add_plain_calls_of_each(out, branches.as_slice()),
         StmtForm::Sel(branches) => add_plain_calls_of_each(out, branches.as_slice()),
         StmtForm::If(_, body, other) => {
-            add_plain_calls(out, body.as_slice())?;
+            add_plain_calls(out, body.get().as_slice())?;
             match other {
                 None => Ok(()),
-                Some(other) => add_plain_calls(out, other.as_slice()),
+                Some(other) => add_plain_calls(out, other.get().as_slice()),
             }
         }
         StmtForm::While(_, body) => add_plain_calls(out, body.as_slice()),
@@ -55,7 +55,7 @@ fn add_plain_calls_of(out: &mut Items<Id>, statement: &Stmt) -> Result<(), Alloc
             method,
             args,
             results,
-        } => add_call(out, method, args.as_slice(), results.as_slice()),
+        } => add_call(out, method, args.as_slice(), results.get().as_slice()),
         StmtForm::Skip => Ok(()),
         StmtForm::Delay(_) => Ok(()),
         StmtForm::Block(_) => Ok(()),

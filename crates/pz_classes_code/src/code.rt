@@ -21,7 +21,7 @@ impl Drop for Code {
     }
 }
 
-/// The forms of expressions, as in the syntax.
+/// The forms of expressions, as in the syntax, with what is largest of them in a box.
 #[cycle(code)]
 #[derive(Drop)]
 pub enum CodeForm {
@@ -36,7 +36,7 @@ pub enum CodeForm {
     Unary(Symbol, Boxed<Code>),
     Assign(Slot, Boxed<Code>),
     Return(Boxed<Code>),
-    If(Boxed<Code>, Items<Code>, Option<Items<Code>>),
+    If(Boxed<Code>, Boxed<Items<Code>>, Boxed<Option<Items<Code>>>),
     While(Boxed<Code>, Items<Code>),
 }
 

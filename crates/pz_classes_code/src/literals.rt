@@ -15,7 +15,7 @@ pub fn constant(alloc: Global, literal: &Literal) -> Result<Value, AllocError>
         Literal::Int(n) => Value::Int(*n),
         Literal::Float | Literal::Nil => Value::Nil,
         Literal::Char(byte) => Value::Char(*byte),
-        Literal::Str(text) => Value::Str(Text::new(text.as_bytes().to_vec(alloc)?)),
+        Literal::Str(text) => Value::Str(Text::new(text.get().as_bytes().to_vec(alloc)?)),
         Literal::True => Value::Bool(true),
         Literal::False => Value::Bool(false),
     })

@@ -1,8 +1,7 @@
 ghost use Rattle.std.specs.Prelude.{◌≡◌, IfOk};
 
-use crate::resolving::both::both;
 use crate::{Code, Slot};
-use pz_items::{Items, Shared};
+use pz_items::{Items, Shared, both};
 use pz_syntax::{Id, Pos};
 use std::alloc::AllocError;
 

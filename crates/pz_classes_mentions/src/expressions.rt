@@ -5,7 +5,7 @@ ghost use Rattle.pz_classes_mentions.specs.Expressions.{count, count_written, me
 
 use crate::Mention;
 use crate::adding::add_variable;
-use pz_items::Items;
+use pz_items::{Boxed, Items};
 use pz_syntax::{Expr, ExprForm, Id, Link, Literal, Name, Pos, Sending};
 use std::alloc::AllocError;
 
@@ -63,19 +63,19 @@ pub(crate) fn add_expr(out: &mut Items<Mention>, e: &Expr) -> Result<(), AllocEr
         ExprForm::Var(name) => add_name(out, name, e.pos),
         ExprForm::Me => out.push(Mention::Me(e.pos)),
         ExprForm::Clock => out.push(Mention::Clock(e.pos)),
-        ExprForm::New(class) => add_creation(out, class),
+        ExprForm::New(class) => add_creation(out, class.get()),
         ExprForm::Group(es) => add_exprs(out, es.as_slice()),
         ExprForm::Chain(first, links) => {
             add_expr(out, first.get())?;
-            add_links(out, links.as_slice())
+            add_links(out, links.get().as_slice())
         }
         ExprForm::Sends(receiver, sendings) => {
             add_expr(out, receiver.get())?;
-            add_sendings(out, sendings.as_slice())
+            add_sendings(out, sendings.get().as_slice())
         }
         ExprForm::Unary(_, operand) => add_expr(out, operand.get()),
         ExprForm::Assign(variable, value) => {
-            add_variable(out, variable)?;
+            add_variable(out, variable.get())?;
             add_expr(out, value.get())
         }
         ExprForm::Return(value) => {
@@ -84,15 +84,15 @@ pub(crate) fn add_expr(out: &mut Items<Mention>, e: &Expr) -> Result<(), AllocEr
         }
         ExprForm::If(test, body, other) => {
             add_expr(out, test.get())?;
-            add_exprs(out, body.as_slice())?;
-            match other {
+            add_exprs(out, body.get().as_slice())?;
+            match other.get() {
                 None => Ok(()),
                 Some(other) => add_exprs(out, other.as_slice()),
             }
         }
         ExprForm::While(test, body) => {
             add_expr(out, test.get())?;
-            add_exprs(out, body.as_slice())
+            add_exprs(out, body.get().as_slice())
         }
     }
 }
@@ -148,12 +148,12 @@ fn add_sendings(out: &mut Items<Mention>, sendings: &[Sending]) -> Result<(), Al
 /// A list that is written or left out.
 pub(crate) fn add_part(
     out: &mut Items<Mention>,
-    part: &Option<Items<Expr>>,
+    part: &Option<Boxed<Items<Expr>>>,
 ) -> Result<(), AllocError>
     ensures { OnOk result (out.new ≡ out.old ++ mentioned_part (part_view part.now)) }
 {
     match part {
         None => Ok(()),
-        Some(es) => add_exprs(out, es.as_slice()),
+        Some(es) => add_exprs(out, es.get().as_slice()),
     }
 }

@@ -9,8 +9,8 @@ ghost use Rattle.pz_classes_mentions.specs.Statements.{variables, received, ment
 
 use crate::Mention;
 use crate::adding::{add_port, add_variable, add_variables};
-use crate::expressions::{add_expr, add_exprs, add_part, count_args, count_exprs};
-use pz_items::Items;
+use crate::expressions::{add_expr, add_exprs, add_part, count_exprs};
+use pz_items::{Boxed, Items};
 use pz_syntax::{Expr, Id, Stmt, StmtForm};
 use std::alloc::AllocError;
 
@@ -31,10 +31,10 @@ fn add_statement(out: &mut Items<Mention>, statement: &Stmt) -> Result<(), Alloc
         StmtForm::Sel(branches) => add_branches(out, branches.as_slice()),
         StmtForm::If(test, body, other) => {
             add_expr(out, test)?;
-            add_statements(out, body.as_slice())?;
+            add_statements(out, body.get().as_slice())?;
             match other {
                 None => Ok(()),
-                Some(other) => add_statements(out, other.as_slice()),
+                Some(other) => add_statements(out, other.get().as_slice()),
             }
         }
         StmtForm::While(test, body) => {
@@ -54,21 +54,21 @@ fn add_statement(out: &mut Items<Mention>, statement: &Stmt) -> Result<(), Alloc
             name,
             args,
             block,
-        } => add_send(out, port, name, args, block),
+        } => add_send(out, port.get(), name.get(), args, block),
         StmtForm::Receive {
             port,
             name,
             into,
             condition,
             block,
-        } => add_receive(out, port, name, into, condition, block),
+        } => add_receive(out, port.get(), name.get(), into, condition, block),
         StmtForm::Call {
             method,
             args,
             results,
-        } => add_call(out, method, args.as_slice(), results.as_slice()),
+        } => add_call(out, method, args.as_slice(), results.get().as_slice()),
         StmtForm::Assign(variable, value) => {
-            add_variable(out, variable)?;
+            add_variable(out, variable.get())?;
             add_expr(out, value)
         }
         StmtForm::Value(e) => add_expr(out, e),
@@ -105,8 +105,8 @@ fn add_send(
     out: &mut Items<Mention>,
     port: &Id,
     name: &Id,
-    args: &Option<Items<Expr>>,
-    block: &Option<Items<Expr>>,
+    args: &Option<Boxed<Items<Expr>>>,
+    block: &Option<Boxed<Items<Expr>>>,
 ) -> Result<(), AllocError>
     ensures { OnOk result (out.new ≡ out.old ++ m.Port port.now ∷ m.Sent port.now name.now
         (count_written (part_view args.now)) ∷ (mentioned_part
@@ -116,38 +116,51 @@ fn add_send(
     out.push(Mention::Sent {
         port: port.copy()?,
         name: name.copy()?,
-        count: count_args(args),
+        count: count_sent(args),
     })?;
     add_part(out, args)?;
     add_part(out, block)
 }
 
+/// How many arguments are sent.
+fn count_sent(args: &Option<Boxed<Items<Expr>>>) -> usize
+    ensures { result ≡ count_written (part_view args.now) }
+{
+    match args {
+        None => 0,
+        Some(args) => count_exprs(args.get().as_slice()),
+    }
+}
+
 /// Into how many variables a message is received.
-fn count_received(into: &Option<Items<Id>>) -> usize
+fn count_received(into: &Option<Boxed<Items<Id>>>) -> usize
     ensures { result ≡ length (received into.now) }
 {
     match into {
         None => 0,
-        Some(into) => into.len(),
+        Some(into) => into.get().len(),
     }
 }
 
-fn add_received(out: &mut Items<Mention>, into: &Option<Items<Id>>) -> Result<(), AllocError>
+fn add_received(out: &mut Items<Mention>, into: &Option<Boxed<Items<Id>>>) -> Result<(), AllocError>
     ensures { OnOk result (out.new ≡ out.old ++ variables (received into.now)) }
 {
     match into {
         None => Ok(()),
-        Some(into) => add_variables(out, into.as_slice()),
+        Some(into) => add_variables(out, into.get().as_slice()),
     }
 }
 
-fn add_condition(out: &mut Items<Mention>, condition: &Option<Expr>) -> Result<(), AllocError>
+fn add_condition(
+    out: &mut Items<Mention>,
+    condition: &Option<Boxed<Expr>>,
+) -> Result<(), AllocError>
     ensures { OnOk result (out.new ≡ out.old ++ mentioned_condition
         (option_map expression_view.view condition.now)) }
 {
     match condition {
         None => Ok(()),
-        Some(condition) => add_expr(out, condition),
+        Some(condition) => add_expr(out, condition.get()),
     }
 }
 
@@ -155,9 +168,9 @@ fn add_receive(
     out: &mut Items<Mention>,
     port: &Id,
     name: &Id,
-    into: &Option<Items<Id>>,
-    condition: &Option<Expr>,
-    block: &Option<Items<Expr>>,
+    into: &Option<Boxed<Items<Id>>>,
+    condition: &Option<Boxed<Expr>>,
+    block: &Option<Boxed<Items<Expr>>>,
 ) -> Result<(), AllocError>
     ensures { OnOk result (out.new ≡ out.old ++ m.Port port.now ∷ m.Received port.now name.now
         (length (received into.now)) ∷ (variables (received into.now) ++

@@ -28,7 +28,7 @@ pub(crate) fn id(alloc: Global, name: &str, at: Pos) -> Result<Id, AllocError>
     ensures { IfOk result (λ made. made ≡ id_at name.now at) }
 {
     Ok(Id {
-        name: Name::new(String::from_str(alloc, name)?),
+        name: Name::new(alloc, name)?,
         pos: at,
     })
 }
@@ -48,7 +48,7 @@ pub(crate) fn port_id(alloc: Global, number: usize, at: Pos) -> Result<Id, Alloc
     ensures { IfOk result (λ made. made ≡ id_at (port_name number) at) }
 {
     Ok(Id {
-        name: Name::new(format!(in alloc; "p{number}")?),
+        name: Name::new(alloc, format!(in alloc; "p{number}")?.as_str())?,
         pos: at,
     })
 }

@@ -13,13 +13,13 @@ ghost use Rattle.pz_env.specs.devices.Making.{exchange_at, id_at};
 
 use crate::names::{VARIABLE, id_list, id_of};
 use pz_env_script::Transfer;
-use pz_items::Items;
+use pz_items::{Boxed, Items, Shared, both};
 use pz_syntax::{Expr, ExprForm, Id, Literal, Name, Pos, Stmt, StmtForm};
 use pz_value::Value;
 use std::alloc::{AllocError, Global};
 
 /// The constant that stands for a value of a script. The only error is want of memory.
-fn literal_of(value: &Value) -> Result<Literal, AllocError>
+fn literal_of(alloc: Global, value: &Value) -> Result<Literal, AllocError>
     ensures { IfOk result (λ l. l ≡ literal_of value.now) }
 {
     Ok(match value {
@@ -28,7 +28,7 @@ fn literal_of(value: &Value) -> Result<Literal, AllocError>
         Value::Bool(false) => Literal::False,
         Value::Int(n) => Literal::Int(*n),
         Value::Char(b) => Literal::Char(*b),
-        Value::Str(text) => Literal::Str(text.copy()?),
+        Value::Str(text) => Literal::Str(Shared::new(alloc, text.copy()?)?),
     })
 }
 
@@ -48,19 +48,23 @@ fn constants(alloc: Global, at: Pos, values: &[Value]) -> Result<Items<Expr>, Al
 {
     let mut list = Items::new(alloc);
     for value in values {
-        list.push(constant(at, literal_of(value)?))?;
+        list.push(constant(at, literal_of(alloc, value)?))?;
     }
     Ok(list)
 }
 
 /// The arguments of a send; none are written where there are none. The only error is want of memory.
-fn arguments(alloc: Global, at: Pos, values: &[Value]) -> Result<Option<Items<Expr>>, AllocError>
+fn arguments(
+    alloc: Global,
+    at: Pos,
+    values: &[Value],
+) -> Result<Option<Boxed<Items<Expr>>>, AllocError>
     ensures { IfOk result (λ part. part_view part ≡ arguments at values.now) }
 {
     if values.is_empty() {
         Ok(None)
     } else {
-        Ok(Some(constants(alloc, at, values)?))
+        Ok(Some(Boxed::of_result(alloc, constants(alloc, at, values))?))
     }
 }
 
@@ -76,7 +80,11 @@ fn send(
         (arguments at values.now) left_out) }
 {
     let args = arguments(alloc, at, values)?;
-    let name = id_of(message, at)?;
+    let names = both(
+        Boxed::new(alloc, port),
+        Boxed::of_result(alloc, id_of(message, at)),
+    );
+    let (port, name) = names?;
     Ok(Stmt {
         pos: at,
         form: StmtForm::Send {
@@ -94,8 +102,12 @@ fn receive(alloc: Global, at: Pos, port: Id, message: &Name, count: u32) -> Resu
     ensures { IfOk result (λ s. statement.view s ≡ receive at port (id_at message.now at)
         (unless_none (replicate count (id_at variable_name at))) None left_out) }
 {
-    let into = id_list(alloc, VARIABLE, at, count as usize)?;
-    let name = id_of(message, at)?;
+    let into = Boxed::of_option(alloc, id_list(alloc, VARIABLE, at, count as usize)?)?;
+    let names = both(
+        Boxed::new(alloc, port),
+        Boxed::of_result(alloc, id_of(message, at)),
+    );
+    let (port, name) = names?;
     Ok(Stmt {
         pos: at,
         form: StmtForm::Receive {

@@ -418,8 +418,8 @@ fn begin_form<'a>(
             depth,
             at,
             test.get(),
-            part.as_slice(),
-            other,
+            part.get().as_slice(),
+            other.get(),
         ),
         CodeForm::While(test, body) => go_on_turns(
             state,

@@ -29,7 +29,7 @@ fn put_kind(out: &mut Vec<u8>, kind: &TokenKind) -> Result<(), AllocError>
         TokenKind::Int(value) => put_integer(out, *value),
         TokenKind::Float => out.extend_from_slice(b"0.0"),
         TokenKind::Char(value) => put_quoted(out, b'\'', &[*value]),
-        TokenKind::Str(text) => put_quoted(out, b'"', text.as_bytes()),
+        TokenKind::Str(text) => put_quoted(out, b'"', text.get().as_bytes()),
         TokenKind::Sym(symbol) => out.extend_from_slice(symbol_text(*symbol).as_bytes()),
     }
 }

@@ -1,4 +1,4 @@
-ghost use Rattle.std.specs.Prelude.{◌≡◌, IfOk};
+ghost use Rattle.std.specs.Prelude.{◌≡◌, Ok, IfOk};
 
 use std::alloc::{AllocError, Global};
 use std::marker::Model;
@@ -43,5 +43,23 @@ impl<T: Drop> Boxed<T> {
         Ok(Boxed {
             inner: Box::new(alloc, value)?,
         })
+    }
+
+    /// Puts on the heap what was made, if it was. The only error is want of memory.
+    pub fn of_result(alloc: Global, made: Result<T, AllocError>) -> Result<Boxed<T>, AllocError>
+        ensures { IfOk result (λ b. made ≡ Ok b) }
+    {
+        Boxed::new(alloc, made?)
+    }
+
+    /// Puts the value on the heap, if there is one. The only error is want of memory, and then the value
+    /// is gone.
+    pub fn of_option(alloc: Global, value: Option<T>) -> Result<Option<Boxed<T>>, AllocError>
+        ensures { IfOk result (λ b. b ≡ value) }
+    {
+        match value {
+            None => Ok(None),
+            Some(value) => Ok(Some(Boxed::new(alloc, value)?)),
+        }
     }
 }

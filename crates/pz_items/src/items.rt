@@ -69,11 +69,15 @@ impl<T> Items<T> {
 
 impl<T: Drop> Items<T> {
     /// Adds an element at the end. The only error is want of memory: then the list stands as
-    /// before, and the element is gone.
+    /// before, and the element is gone. Room grows by as much as there is, from one element on, since
+    /// most lists of a tree have one or two.
     pub fn push(&mut self, item: T) -> Result<(), AllocError>
         ensures ok { OnOk result (self.new ≡ self.old ++ item ∷ []) }
         ensures err { OnErr result (self.new ≡ self.old) }
     {
+        if self.items.len() == self.items.capacity() {
+            self.items.reserve_exact(self.items.len().max(1))?;
+        }
         self.items.push(item)?;
         Ok(())
     }

@@ -4,10 +4,12 @@
 
 mod boxed;
 mod items;
+mod pairs;
 mod shared;
 mod text;
 
 pub use boxed::Boxed;
 pub use items::Items;
+pub use pairs::both;
 pub use shared::Shared;
 pub use text::Text;

@@ -6,7 +6,7 @@ use std::rc::Rc;
 
 /// A value on the heap that several may own, which contracts see as the value itself. Nobody can
 /// change it, and the last owner that is dropped drops it.
-#[derive(Drop)]
+#[derive(Debug, Drop)]
 pub struct Shared<T> {
     inner: Rc<T>,
 }

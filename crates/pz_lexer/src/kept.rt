@@ -11,7 +11,7 @@ use pz_syntax::{Mark, Pos, Token};
 use std::alloc::{AllocError, Global};
 
 /// A token or a comment of a text.
-#[derive(Debug, Drop)]
+#[derive(Drop)]
 pub enum Piece {
     Token(Token),
     /// A comment that ends with its line: its bytes from `//` on, without blanks, tabs and CRs at

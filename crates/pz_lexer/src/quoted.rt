@@ -6,6 +6,7 @@ ghost use Rattle.pz_lexer.specs.devices.Reading.{Reads};
 use crate::bytes::begins_byte;
 use crate::items::{Inside, inside_at};
 use crate::sorts::{Found, Reason, Sort, Stop};
+use pz_items::Shared;
 use pz_syntax::{Text, TokenKind};
 use std::alloc::Global;
 
@@ -25,8 +26,9 @@ pub fn string(alloc: Global, text: &[u8]) -> Result<Found, Stop>
             }
             Inside::NoEscape => return Err(Stop::Refused(Reason::BadByte, at)),
             Inside::Closing => {
+                let text = Shared::new(alloc, Text::new(values))?;
                 return Ok(Found {
-                    sort: Sort::Token(TokenKind::Str(Text::new(values))),
+                    sort: Sort::Token(TokenKind::Str(text)),
                     len: at + 1,
                 });
             }

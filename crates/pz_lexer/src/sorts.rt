@@ -2,7 +2,7 @@ use pz_syntax::TokenKind;
 use std::alloc::{AllocError, AllocFailed};
 
 /// What a piece of a text is. Blanks are not kept.
-#[derive(Debug, Drop)]
+#[derive(Drop)]
 pub enum Sort {
     Blank,
     LineComment,
@@ -11,7 +11,7 @@ pub enum Sort {
 }
 
 /// A piece at the front of a text: what it is, and how many bytes it has.
-#[derive(Debug, Drop)]
+#[derive(Drop)]
 pub struct Found {
     pub sort: Sort,
     pub len: usize,

@@ -40,7 +40,7 @@ fn name(alloc: Global, word: &[u8]) -> Result<Name, AllocError>
     ensures { IfOk result (λ name. name ≡ word.now) }
 {
     match str::from_utf8(word) {
-        Ok(text) => Ok(Name::new(String::from_str(alloc, text)?)),
+        Ok(text) => Name::new(alloc, text),
         Err(_) => unreachable!(),
     }
 }

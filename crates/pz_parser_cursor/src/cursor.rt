@@ -223,7 +223,7 @@ fn name_by(alloc: Global, kind: &TokenKind) -> Result<Name, Refusal>
 fn init_name(alloc: Global) -> Result<Name, Refusal>
     ensures { MakesOr (λ name. name ≡ codes "init") result }
 {
-    Ok(Name::new(String::from_str(alloc, "init")?))
+    Ok(Name::new(alloc, "init")?)
 }
 
 #[tactic(auto, unfolding(crate::specs::devices::Input::spelled_init, crate::specs::devices::Input::name))]

@@ -10,7 +10,7 @@ ghost use Rattle.pz_parser_expressions.specs.devices.Nests.{Nests};
 
 use crate::Rule;
 use crate::grammar::Grammar;
-use pz_items::{Boxed, Items};
+use pz_items::{Boxed, Items, both};
 use pz_parser_cursor::{Cursor, Next, Refusal};
 use pz_syntax::{Expr, ExprForm, Link, Pos, Symbol};
 use std::alloc::Global;
@@ -71,7 +71,8 @@ fn chained(alloc: Global, pos: Pos, first: Expr, found: Items<Link>) -> Result<E
     if found.is_empty() {
         return Ok(first);
     }
-    let form = ExprForm::Chain(Boxed::new(alloc, first)?, found);
+    let (first, found) = both(Boxed::new(alloc, first), Boxed::new(alloc, found))?;
+    let form = ExprForm::Chain(first, found);
     Ok(Expr { pos, form })
 }
 

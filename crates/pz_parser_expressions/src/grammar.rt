@@ -97,7 +97,7 @@ pub fn optional_arguments(
     alloc: Global,
     cursor: &mut Cursor<'_>,
     depth: usize,
-) -> Result<Option<Items<Expr>>, Refusal>
+) -> Result<Option<Boxed<Items<Expr>>>, Refusal>
     ensures reads { Reads part_view (spec.arguments depth (below depth) cursor.old) result
         cursor.new }
 {
@@ -107,7 +107,7 @@ pub fn optional_arguments(
         rule: Rule::Operand,
         expr,
     };
-    grammar.arguments(cursor)
+    Ok(Boxed::of_option(alloc, grammar.arguments(cursor)?)?)
 }
 
 /// The expressions of a block, none or more. A `{` stands next. The block counts for `depth`.
@@ -278,7 +278,7 @@ impl<F: Fn(Global, &mut Cursor<'_>, usize, Rule) -> Result<Expr, Refusal>> Gramm
             (spec.expr self.now.depth rule.Value) cursor.old) result cursor.new }
     {
         let pos = cursor.pos();
-        let name = cursor.take_id(self.alloc)?;
+        let name = Boxed::new(self.alloc, cursor.take_id(self.alloc)?)?;
         cursor.skip();
         let value = Boxed::new(self.alloc, self.tighter(cursor, Rule::Value)?)?;
         let form = ExprForm::Assign(name, value);

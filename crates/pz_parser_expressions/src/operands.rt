@@ -9,7 +9,7 @@ ghost use Rattle.pz_parser_expressions.specs.devices.Nests.{Nests};
 
 use crate::Rule;
 use crate::grammar::Grammar;
-use pz_items::{Boxed, Items};
+use pz_items::{Boxed, Items, both};
 use pz_parser_cursor::{Cursor, Next, Refusal};
 use pz_syntax::{Expr, ExprForm, Pos, Sending, Symbol};
 use std::alloc::Global;
@@ -108,6 +108,7 @@ fn sent(alloc: Global, pos: Pos, first: Expr, found: Items<Sending>) -> Result<E
     if found.is_empty() {
         return Ok(first);
     }
-    let form = ExprForm::Sends(Boxed::new(alloc, first)?, found);
+    let (first, found) = both(Boxed::new(alloc, first), Boxed::new(alloc, found))?;
+    let form = ExprForm::Sends(first, found);
     Ok(Expr { pos, form })
 }

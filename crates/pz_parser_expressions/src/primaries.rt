@@ -3,14 +3,14 @@
 ghost use Rattle.std.specs.Prelude.{◌≡◌, map, Ok};
 ghost use Rattle.pz_syntax.specs.ExpressionView.{view, list_view, part_view};
 ghost use Rattle.pz_syntax.specs.Expressions as tree;
-ghost use Rattle.pz_parser_cursor.specs.devices.Device.{Reads};
+ghost use Rattle.pz_parser_cursor.specs.devices.Device.{Reads, MakesOr};
 ghost use Rattle.pz_parser_expressions.specs.devices.Values as spec;
 ghost use Rattle.pz_parser_expressions.specs.devices.Values.{below};
 ghost use Rattle.pz_parser_expressions.specs.devices.Nests.{Nests};
 
 use crate::Rule;
 use crate::grammar::Grammar;
-use pz_items::{Boxed, Items};
+use pz_items::{Boxed, Items, both};
 use pz_parser_cursor::{Cursor, Next, Refusal};
 use pz_syntax::{Expr, ExprForm, Id, Pos};
 use std::alloc::Global;
@@ -67,7 +67,7 @@ impl<F: Fn(Global, &mut Cursor<'_>, usize, Rule) -> Result<Expr, Refusal>> Gramm
         let body = self.exprs(cursor, Next::Semicolon)?;
         let other = self.otherwise(cursor)?;
         cursor.expect(Next::Fi)?;
-        Ok(choice(pos, test, body, other))
+        choice(self.alloc, pos, test, body, other)
     }
 
     /// A value and this word behind it.
@@ -111,7 +111,7 @@ impl<F: Fn(Global, &mut Cursor<'_>, usize, Rule) -> Result<Expr, Refusal>> Gramm
         let test = self.test(cursor, Next::Do)?;
         let body = self.exprs(cursor, Next::Semicolon)?;
         cursor.expect(Next::Od)?;
-        Ok(repeated(pos, test, body))
+        repeated(self.alloc, pos, test, body)
     }
 }
 
@@ -157,22 +157,30 @@ fn creation(alloc: Global, cursor: &mut Cursor<'_>) -> Result<Expr, Refusal>
     let pos = cursor.pos();
     cursor.skip();
     cursor.expect(Next::LeftParen)?;
-    let class = cursor.expect_id(alloc, Next::Word)?;
+    let class = Boxed::new(alloc, cursor.expect_id(alloc, Next::Word)?)?;
     cursor.expect(Next::RightParen)?;
     let form = ExprForm::New(class);
     Ok(Expr { pos, form })
 }
 
-fn choice(pos: Pos, test: Boxed<Expr>, body: Items<Expr>, other: Option<Items<Expr>>) -> Expr
-    ensures { view result ≡ tree.choice pos (view test) (list_view body) (part_view other) }
+fn choice(
+    alloc: Global,
+    pos: Pos,
+    test: Boxed<Expr>,
+    body: Items<Expr>,
+    other: Option<Items<Expr>>,
+) -> Result<Expr, Refusal>
+    ensures { MakesOr (λ e. view e ≡
+        tree.choice pos (view test) (list_view body) (part_view other)) result }
 {
+    let (body, other) = both(Boxed::new(alloc, body), Boxed::new(alloc, other))?;
     let form = ExprForm::If(test, body, other);
-    Expr { pos, form }
+    Ok(Expr { pos, form })
 }
 
-fn repeated(pos: Pos, test: Boxed<Expr>, body: Items<Expr>) -> Expr
-    ensures { view result ≡ tree.loop pos (view test) (list_view body) }
+fn repeated(alloc: Global, pos: Pos, test: Boxed<Expr>, body: Items<Expr>) -> Result<Expr, Refusal>
+    ensures { MakesOr (λ e. view e ≡ tree.loop pos (view test) (list_view body)) result }
 {
-    let form = ExprForm::While(test, body);
-    Expr { pos, form }
+    let form = ExprForm::While(test, Boxed::new(alloc, body)?);
+    Ok(Expr { pos, form })
 }

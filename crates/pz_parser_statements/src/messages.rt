@@ -10,7 +10,7 @@ ghost use Rattle.pz_parser_statements.specs.devices.Views.{reception_view};
 
 use crate::kept::up_to;
 use crate::single::inner_value;
-use pz_items::Items;
+use pz_items::{Boxed, Items, both};
 use pz_parser_cursor::{Cursor, Next, Refusal, optional_names};
 use pz_parser_expressions::{arguments, block, optional_arguments};
 use pz_syntax::{Expr, Id, Stmt, StmtForm};
@@ -19,8 +19,8 @@ use std::alloc::Global;
 /// The variables and the condition of a reception. A condition is there only where brackets are.
 #[derive(Drop)]
 pub struct Reception {
-    pub into: Option<Items<Id>>,
-    pub condition: Option<Expr>,
+    pub into: Option<Boxed<Items<Id>>>,
+    pub condition: Option<Boxed<Expr>>,
 }
 
 /// A `!` stands behind the next token.
@@ -29,9 +29,9 @@ pub fn send(alloc: Global, cursor: &mut Cursor<'_>, depth: usize) -> Result<Stmt
     ensures reads { Reads view (spec.sent depth cursor.old) result cursor.new }
 {
     let pos = cursor.pos();
-    let port = cursor.take_id(alloc)?;
+    let port = Boxed::new(alloc, cursor.take_id(alloc)?)?;
     cursor.skip();
-    let name = cursor.expect_id(alloc, Next::Word)?;
+    let name = Boxed::new(alloc, cursor.expect_id(alloc, Next::Word)?)?;
     let args = optional_arguments(alloc, cursor, depth)?;
     let block = optional_block(alloc, cursor, depth)?;
     let form = StmtForm::Send {
@@ -49,9 +49,9 @@ pub fn receive(alloc: Global, cursor: &mut Cursor<'_>, depth: usize) -> Result<S
     ensures reads { Reads view (spec.received depth cursor.old) result cursor.new }
 {
     let pos = cursor.pos();
-    let port = cursor.take_id(alloc)?;
+    let port = Boxed::new(alloc, cursor.take_id(alloc)?)?;
     cursor.skip();
-    let name = cursor.expect_id(alloc, Next::Word)?;
+    let name = Boxed::new(alloc, cursor.expect_id(alloc, Next::Word)?)?;
     let reception = optional_reception(alloc, cursor, depth)?;
     let (reception, block) = with_block(alloc, cursor, depth, reception)?;
     let Reception { into, condition } = reception;
@@ -73,7 +73,7 @@ pub fn call(alloc: Global, cursor: &mut Cursor<'_>, depth: usize) -> Result<Stmt
     let pos = cursor.pos();
     let method = cursor.take_id(alloc)?;
     let args = call_arguments(alloc, cursor, depth)?;
-    let results = call_results(alloc, cursor)?;
+    let results = Boxed::new(alloc, call_results(alloc, cursor)?)?;
     let form = StmtForm::Call {
         method,
         args,
@@ -114,11 +114,11 @@ fn optional_block(
     alloc: Global,
     cursor: &mut Cursor<'_>,
     depth: usize,
-) -> Result<Option<Items<Expr>>, Refusal>
+) -> Result<Option<Boxed<Items<Expr>>>, Refusal>
     ensures reads { Reads part_view (spec.after_message depth cursor.old) result cursor.new }
 {
     match cursor.peek() {
-        Next::LeftBrace => Ok(Some(block(alloc, cursor, depth)?)),
+        Next::LeftBrace => Ok(Some(Boxed::new(alloc, block(alloc, cursor, depth)?)?)),
         _ => Ok(None),
     }
 }
@@ -129,7 +129,7 @@ fn with_block<T: Drop>(
     cursor: &mut Cursor<'_>,
     depth: usize,
     value: T,
-) -> Result<(T, Option<Items<Expr>>), Refusal>
+) -> Result<(T, Option<Boxed<Items<Expr>>>), Refusal>
     ensures kept { IfOk result (λ read. read.0 ≡ value) }
     ensures reads { Reads (λ read. part_view read.1)
         (spec.after_message depth cursor.old) result cursor.new }
@@ -170,6 +170,7 @@ fn enclosed_reception(
     let names = optional_names(alloc, cursor)?;
     let condition = condition(alloc, cursor, depth)?;
     let condition = up_to(cursor, condition, Next::RightParen)?;
+    let (names, condition) = both(Boxed::new(alloc, names), Boxed::of_option(alloc, condition))?;
     Ok(Reception {
         into: Some(names),
         condition,

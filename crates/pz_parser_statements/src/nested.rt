@@ -14,7 +14,7 @@ ghost use Rattle.pz_parser_statements.specs.devices.Nests.{Nests};
 use crate::grammar::Grammar;
 use crate::kept::up_to;
 use crate::single::inner_value;
-use pz_items::{Boxed, Items};
+use pz_items::{Boxed, Items, both};
 use pz_parser_cursor::{Cursor, Next, Refusal};
 use pz_syntax::{Expr, Stmt, StmtForm};
 use std::alloc::Global;
@@ -63,6 +63,11 @@ impl<F: Fn(Global, &mut Cursor<'_>, usize) -> Result<Stmt, Refusal>> Grammar<F> 
         let (test, body) = self.with_sequence(cursor, test)?;
         let ((test, body), other) = self.with_otherwise(cursor, (test, body))?;
         let (test, body, other) = up_to(cursor, (test, body, other), Next::Fi)?;
+        let parts = both(
+            Boxed::new(self.alloc, body),
+            Boxed::of_option(self.alloc, other),
+        );
+        let (test, (body, other)) = both(Ok(test), parts)?;
         let form = StmtForm::If(test, body, other);
         Ok(Stmt { pos, form })
     }

@@ -9,6 +9,7 @@ ghost use Rattle.pz_parser_expressions.specs.devices.Values.{below};
 ghost use Rattle.pz_parser_statements.specs.devices.Statements as spec;
 
 use crate::messages::{receive, send};
+use pz_items::Boxed;
 use pz_parser_cursor::{Cursor, Next, Refusal};
 use pz_parser_expressions::value;
 use pz_syntax::{Expr, Stmt, StmtForm};
@@ -66,7 +67,7 @@ fn assign(alloc: Global, cursor: &mut Cursor<'_>, depth: usize) -> Result<Stmt, 
     ensures reads { Reads view (spec.assigned depth cursor.old) result cursor.new }
 {
     let pos = cursor.pos();
-    let name = cursor.take_id(alloc)?;
+    let name = Boxed::new(alloc, cursor.take_id(alloc)?)?;
     cursor.skip();
     let form = StmtForm::Assign(name, value(alloc, cursor, depth)?);
     Ok(Stmt { pos, form })

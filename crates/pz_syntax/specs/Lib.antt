@@ -1,3 +1,4 @@
+pub mod Spelling
 pub mod Expressions
 pub mod ExpressionView
 pub mod Statements

@@ -1,7 +1,7 @@
 ghost use Rattle.std.specs.Prelude.{◌≡◌, IfOk};
 
 use crate::{Id, Name, Pos, Symbol};
-use pz_items::{Boxed, Items, Text};
+use pz_items::{Boxed, Items, Shared, Text};
 use std::alloc::AllocError;
 
 /// A constant of the text. Of a float only its presence is kept.
@@ -10,14 +10,15 @@ pub enum Literal {
     Int(i64),
     Float,
     Char(u8),
-    Str(Text),
+    Str(Shared<Text>),
     True,
     False,
     Nil,
 }
 
 impl Literal {
-    /// An equal literal. The only error is want of memory.
+    /// An equal literal. Takes constant time and no memory. The only error is that a string has as many
+    /// owners as can be counted.
     pub fn copy(&self) -> Result<Literal, AllocError>
         ensures { IfOk result (λ copy. copy ≡ self.now) }
     {
@@ -50,7 +51,8 @@ impl Drop for Expr {
     }
 }
 
-/// The forms of expressions. `Me` is `self` and `Clock` is `currentTime`.
+/// The forms of expressions. `Me` is `self` and `Clock` is `currentTime`. What is in a box is there so that
+/// an expression takes 40 bytes, since a text may have one for each byte.
 #[cycle(expr)]
 #[derive(Drop)]
 pub enum ExprForm {
@@ -58,17 +60,17 @@ pub enum ExprForm {
     Var(Name),
     Me,
     Clock,
-    New(Id),
+    New(Boxed<Id>),
     Group(Items<Expr>),
     /// Operators of one level, applied from left to right. At least one link.
-    Chain(Boxed<Expr>, Items<Link>),
+    Chain(Boxed<Expr>, Boxed<Items<Link>>),
     /// Selectors applied from left to right. At least one sending.
-    Sends(Boxed<Expr>, Items<Sending>),
+    Sends(Boxed<Expr>, Boxed<Items<Sending>>),
     Unary(Symbol, Boxed<Expr>),
-    Assign(Id, Boxed<Expr>),
+    Assign(Boxed<Id>, Boxed<Expr>),
     Return(Boxed<Expr>),
-    If(Boxed<Expr>, Items<Expr>, Option<Items<Expr>>),
-    While(Boxed<Expr>, Items<Expr>),
+    If(Boxed<Expr>, Boxed<Items<Expr>>, Boxed<Option<Items<Expr>>>),
+    While(Boxed<Expr>, Boxed<Items<Expr>>),
 }
 
 /// An operator, at its place, and its right operand.

@@ -17,7 +17,8 @@ impl Drop for Stmt {
     }
 }
 
-/// The forms of statements. What is optional is kept as written or not written.
+/// The forms of statements. What is optional is kept as written or not written. What is in a box is there
+/// so that a statement takes 80 bytes, since a text may have one for every two bytes.
 #[cycle(stmt)]
 #[derive(Drop)]
 pub enum StmtForm {
@@ -28,29 +29,29 @@ pub enum StmtForm {
     Guard(Expr, Boxed<Stmt>),
     Par(Items<Items<Stmt>>),
     Sel(Items<Items<Stmt>>),
-    If(Expr, Items<Stmt>, Option<Items<Stmt>>),
+    If(Expr, Boxed<Items<Stmt>>, Option<Boxed<Items<Stmt>>>),
     While(Expr, Items<Stmt>),
     Abort(Items<Stmt>, Boxed<Stmt>),
     Interrupt(Items<Stmt>, Boxed<Stmt>),
     Send {
-        port: Id,
-        name: Id,
-        args: Option<Items<Expr>>,
-        block: Option<Items<Expr>>,
+        port: Boxed<Id>,
+        name: Boxed<Id>,
+        args: Option<Boxed<Items<Expr>>>,
+        block: Option<Boxed<Items<Expr>>>,
     },
     /// Where there is a condition, `into` is there, and may be empty.
     Receive {
-        port: Id,
-        name: Id,
-        into: Option<Items<Id>>,
-        condition: Option<Expr>,
-        block: Option<Items<Expr>>,
+        port: Boxed<Id>,
+        name: Boxed<Id>,
+        into: Option<Boxed<Items<Id>>>,
+        condition: Option<Boxed<Expr>>,
+        block: Option<Boxed<Items<Expr>>>,
     },
     Call {
         method: Id,
         args: Items<Expr>,
-        results: Items<Id>,
+        results: Boxed<Items<Id>>,
     },
-    Assign(Id, Expr),
+    Assign(Boxed<Id>, Expr),
     Value(Expr),
 }

@@ -1,5 +1,5 @@
 use crate::Name;
-use pz_items::Text;
+use pz_items::{Shared, Text};
 
 /// A place in the text of a model: the line and the column, both from 1. A line ends after an LF,
 /// and a column counts bytes.
@@ -96,7 +96,7 @@ pub enum TokenKind {
     Int(i64),
     Float,
     Char(u8),
-    Str(Text),
+    Str(Shared<Text>),
     Sym(Symbol),
 }
 

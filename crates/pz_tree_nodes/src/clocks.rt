@@ -29,8 +29,8 @@ pub fn names_clock(code: &Code) -> bool
         CodeForm::Assign(_, value) => names_clock(value.get()),
         CodeForm::Return(value) => names_clock(value.get()),
         CodeForm::If(test, body, other) => {
-            let here = names_clock(test.get()) || any_names_clock(body.as_slice());
-            match other {
+            let here = names_clock(test.get()) || any_names_clock(body.get().as_slice());
+            match other.get() {
                 None => here,
                 Some(other) => here || any_names_clock(other.as_slice()),
             }

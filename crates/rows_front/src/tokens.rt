@@ -8,7 +8,7 @@ use std::io;
 fn show_mark(rt: &HostRuntime, mark: &Mark) -> io::Result<()> {
     match &mark.kind {
         TokenKind::Str(text) => {
-            let copy = text.copy();
+            let copy = text.get().copy();
             println!(rt; "string, copied {copy:?}")
         }
         kind => println!(rt; "{kind:?}"),

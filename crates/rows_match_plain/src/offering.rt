@@ -21,7 +21,7 @@ fn place_of(alloc: Global, number: usize) -> Result<Place, AllocError>
 
 fn message_of(alloc: Global, wish: Wish) -> Result<Name, AllocError> {
     let text = if wish.second { "b" } else { "a" };
-    Ok(Name::new(String::from_str(alloc, text)?))
+    Name::new(alloc, text)
 }
 
 /// So many times the same value.

@@ -7,7 +7,7 @@ use std::test::Fail;
 
 /// An identifier that is spelled as the keyword `init`, which no text has.
 fn init_as_identifier(alloc: Global) -> Result<Token, AllocError> {
-    let name = Name::new(String::from_str(alloc, "init")?);
+    let name = Name::new(alloc, "init")?;
     let kind = TokenKind::Ident(name);
     Ok(Token {
         mark: Mark { kind, head: true },

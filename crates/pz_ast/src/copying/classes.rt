@@ -1,6 +1,7 @@
 use crate::copying::expressions::copy_list as copy_exprs;
-use crate::copying::parts::{Copied, both, copy_items, copy_option, copy_part};
+use crate::copying::parts::{Copied, copy_items, copy_option, copy_part};
 use crate::copying::statements::copy_statements;
+use pz_items::both;
 use pz_syntax::{DataClass, DataMethod, Message, ProcessClass, ProcessMethod, Start, VarGroup};
 use std::alloc::{AllocError, Global};
 

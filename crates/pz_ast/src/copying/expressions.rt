@@ -1,7 +1,7 @@
 ghost use Rattle.std.specs.Prelude.{◌≡◌, IfOk};
 
-use crate::copying::parts::{Copied, both};
-use pz_items::{Boxed, Items};
+use crate::copying::parts::Copied;
+use pz_items::{Boxed, Items, both};
 use pz_syntax::{Expr, ExprForm, Link, Sending};
 use std::alloc::{AllocError, Global};
 
@@ -25,39 +25,38 @@ fn copy_form(alloc: Global, form: &ExprForm) -> Result<ExprForm, AllocError>
         ExprForm::Var(name) => Ok(ExprForm::Var(name.copy()?)),
         ExprForm::Me => Ok(ExprForm::Me),
         ExprForm::Clock => Ok(ExprForm::Clock),
-        ExprForm::New(class) => Ok(ExprForm::New(class.copy()?)),
+        ExprForm::New(class) => Ok(ExprForm::New(class.copied(alloc)?)),
         ExprForm::Group(list) => Ok(ExprForm::Group(copy_list(alloc, list.as_slice())?)),
         ExprForm::Chain(first, links) => {
             let first = copy_boxed(alloc, first.get());
-            let (first, links) = both(first, copy_links(alloc, links.as_slice()))?;
+            let links = Boxed::of_result(alloc, copy_links(alloc, links.get().as_slice()));
+            let (first, links) = both(first, links)?;
             Ok(ExprForm::Chain(first, links))
         }
         ExprForm::Sends(first, sendings) => {
             let first = copy_boxed(alloc, first.get());
-            let (first, sendings) = both(first, copy_sendings(alloc, sendings.as_slice()))?;
+            let sendings = copy_sendings(alloc, sendings.get().as_slice());
+            let (first, sendings) = both(first, Boxed::of_result(alloc, sendings))?;
             Ok(ExprForm::Sends(first, sendings))
         }
         ExprForm::Unary(op, operand) => Ok(ExprForm::Unary(*op, copy_boxed(alloc, operand.get())?)),
         ExprForm::Assign(target, value) => {
-            let (target, value) = both(target.copy(), copy_boxed(alloc, value.get()))?;
+            let (target, value) = both(target.copied(alloc), copy_boxed(alloc, value.get()))?;
             Ok(ExprForm::Assign(target, value))
         }
         ExprForm::Return(value) => Ok(ExprForm::Return(copy_boxed(alloc, value.get())?)),
-        ExprForm::If(test, part, None) => {
+        ExprForm::If(test, part, rest) => {
             let test = copy_boxed(alloc, test.get());
-            let (test, part) = both(test, copy_list(alloc, part.as_slice()))?;
-            Ok(ExprForm::If(test, part, None))
-        }
-        ExprForm::If(test, part, Some(rest)) => {
-            let test = copy_boxed(alloc, test.get());
-            let part = copy_list(alloc, part.as_slice());
-            let rest = copy_list(alloc, rest.as_slice());
-            let (test, (part, rest)) = both(test, both(part, rest))?;
-            Ok(ExprForm::If(test, part, Some(rest)))
+            let part = copy_list(alloc, part.get().as_slice());
+            let rest = copy_written(alloc, rest.get());
+            let parts = both(Boxed::of_result(alloc, part), Boxed::of_result(alloc, rest));
+            let (test, (part, rest)) = both(test, parts)?;
+            Ok(ExprForm::If(test, part, rest))
         }
         ExprForm::While(test, body) => {
             let test = copy_boxed(alloc, test.get());
-            let (test, body) = both(test, copy_list(alloc, body.as_slice()))?;
+            let body = copy_list(alloc, body.get().as_slice());
+            let (test, body) = both(test, Boxed::of_result(alloc, body))?;
             Ok(ExprForm::While(test, body))
         }
     }
@@ -80,6 +79,20 @@ pub(crate) fn copy_list(alloc: Global, list: &[Expr]) -> Result<Items<Expr>, All
         copy.push(copy_expression(alloc, expr)?)?;
     }
     Ok(copy)
+}
+
+/// A list that is written or left out.
+#[cycle(copy_expr)]
+fn copy_written(
+    alloc: Global,
+    list: &Option<Items<Expr>>,
+) -> Result<Option<Items<Expr>>, AllocError>
+    ensures { IfOk result (λ copy. copy ≡ list.now) }
+{
+    match list {
+        None => Ok(None),
+        Some(list) => Ok(Some(copy_list(alloc, list.as_slice())?)),
+    }
 }
 
 #[cycle(copy_expr)]

@@ -1,6 +1,7 @@
 ghost use Rattle.std.specs.Prelude.{◌≡◌, IfOk};
 
-use crate::copying::parts::{Copied, both, copy_items, copy_part};
+use crate::copying::parts::{Copied, copy_items, copy_part};
+use pz_items::both;
 use pz_syntax::{Arg, Channel, ChannelEnd, ClusterClass, Decl, Given, Instance, Model, SystemDecl};
 use std::alloc::{AllocError, Global};
 

@@ -1,6 +1,6 @@
-ghost use Rattle.std.specs.Prelude.{◌≡◌, Ok, IfOk};
+ghost use Rattle.std.specs.Prelude.{◌≡◌, IfOk};
 
-use pz_items::Items;
+use pz_items::{Boxed, Items};
 use pz_syntax::Id;
 use std::alloc::{AllocError, Global};
 
@@ -14,6 +14,18 @@ pub(crate) trait Copied {
 impl Copied for Id {
     fn copied(&self, _alloc: Global) -> Result<Id, AllocError> {
         self.copy()
+    }
+}
+
+impl<T: Copied + Drop> Copied for Boxed<T> {
+    fn copied(&self, alloc: Global) -> Result<Boxed<T>, AllocError> {
+        Boxed::of_result(alloc, self.get().copied(alloc))
+    }
+}
+
+impl<T: Copied + Drop> Copied for Items<T> {
+    fn copied(&self, alloc: Global) -> Result<Items<T>, AllocError> {
+        copy_items(alloc, self.as_slice())
     }
 }
 
@@ -55,17 +67,4 @@ pub(crate) fn copy_part<T: Copied + Drop>(
         None => Ok(None),
         Some(items) => Ok(Some(copy_items(alloc, items.as_slice())?)),
     }
-}
-
-/// Both, where both are there. So the drop of one where the other is not there is proved here, once
-/// for all types, and not for each tree that is made of several.
-pub(crate) fn both<T: Drop, U: Drop>(
-    first: Result<T, AllocError>,
-    second: Result<U, AllocError>,
-) -> Result<(T, U), AllocError>
-    ensures { IfOk result (λ pair. (first ≡ Ok pair.0) × (second ≡ Ok pair.1)) }
-{
-    let first = first?;
-    let second = second?;
-    Ok((first, second))
 }

@@ -1,8 +1,8 @@
 ghost use Rattle.std.specs.Prelude.{◌≡◌, IfOk};
 
 use crate::copying::expressions::{copy_expression, copy_list as copy_exprs};
-use crate::copying::parts::{both, copy_items, copy_option, copy_part};
-use pz_items::{Boxed, Items};
+use crate::copying::parts::{Copied, copy_option};
+use pz_items::{Boxed, Items, both};
 use pz_syntax::{Expr, Id, Stmt, StmtForm};
 use std::alloc::{AllocError, Global};
 
@@ -34,14 +34,16 @@ fn copy_form(alloc: Global, form: &StmtForm) -> Result<StmtForm, AllocError>
         StmtForm::Par(branches) => Ok(StmtForm::Par(copy_branches(alloc, branches.as_slice())?)),
         StmtForm::Sel(branches) => Ok(StmtForm::Sel(copy_branches(alloc, branches.as_slice())?)),
         StmtForm::If(test, part, None) => {
-            let part = copy_statements(alloc, part.as_slice());
+            let part = copy_statements(alloc, part.get().as_slice());
+            let part = Boxed::of_result(alloc, part);
             let (test, part) = both(copy_expression(alloc, test), part)?;
             Ok(StmtForm::If(test, part, None))
         }
         StmtForm::If(test, part, Some(rest)) => {
-            let part = copy_statements(alloc, part.as_slice());
-            let rest = copy_statements(alloc, rest.as_slice());
-            let (test, (part, rest)) = both(copy_expression(alloc, test), both(part, rest))?;
+            let part = copy_statements(alloc, part.get().as_slice());
+            let rest = copy_statements(alloc, rest.get().as_slice());
+            let parts = both(Boxed::of_result(alloc, part), Boxed::of_result(alloc, rest));
+            let (test, (part, rest)) = both(copy_expression(alloc, test), parts)?;
             Ok(StmtForm::If(test, part, Some(rest)))
         }
         StmtForm::While(test, body) => {
@@ -76,7 +78,7 @@ fn copy_form(alloc: Global, form: &StmtForm) -> Result<StmtForm, AllocError>
             method,
             args,
             results,
-        } => copy_call(alloc, method, args.as_slice(), results.as_slice()),
+        } => copy_call(alloc, method, args.as_slice(), results),
         StmtForm::Assign(target, value) => copy_assignment(alloc, target, value),
         StmtForm::Value(value) => Ok(StmtForm::Value(copy_expression(alloc, value)?)),
     }
@@ -94,11 +96,11 @@ fn copy_call(
     alloc: Global,
     method: &Id,
     args: &[Expr],
-    results: &[Id],
+    results: &Boxed<Items<Id>>,
 ) -> Result<StmtForm, AllocError>
     ensures { IfOk result (λ copy. copy ≡ StmtForm.Call method.now args.now results.now) }
 {
-    let lists = both(copy_exprs(alloc, args), copy_items(alloc, results));
+    let lists = both(copy_exprs(alloc, args), results.copied(alloc));
     let (method, (args, results)) = both(method.copy(), lists)?;
     Ok(StmtForm::Call {
         method,
@@ -107,24 +109,25 @@ fn copy_call(
     })
 }
 
-fn copy_assignment(alloc: Global, target: &Id, value: &Expr) -> Result<StmtForm, AllocError>
+fn copy_assignment(alloc: Global, target: &Boxed<Id>, value: &Expr) -> Result<StmtForm, AllocError>
     ensures { IfOk result (λ copy. copy ≡ StmtForm.Assign target.now value.now) }
 {
-    let (target, value) = both(target.copy(), copy_expression(alloc, value))?;
+    let (target, value) = both(target.copied(alloc), copy_expression(alloc, value))?;
     Ok(StmtForm::Assign(target, value))
 }
 
 fn copy_send(
     alloc: Global,
-    port: &Id,
-    name: &Id,
-    args: &Option<Items<Expr>>,
-    block: &Option<Items<Expr>>,
+    port: &Boxed<Id>,
+    name: &Boxed<Id>,
+    args: &Option<Boxed<Items<Expr>>>,
+    block: &Option<Boxed<Items<Expr>>>,
 ) -> Result<StmtForm, AllocError>
     ensures { IfOk result (λ copy. copy ≡ StmtForm.Send port.now name.now args.now block.now) }
 {
-    let lists = both(copy_part(alloc, args), copy_part(alloc, block));
-    let ((port, name), (args, block)) = both(both(port.copy(), name.copy()), lists)?;
+    let names = both(port.copied(alloc), name.copied(alloc));
+    let lists = both(copy_option(alloc, args), copy_option(alloc, block));
+    let ((port, name), (args, block)) = both(names, lists)?;
     Ok(StmtForm::Send {
         port,
         name,
@@ -135,18 +138,18 @@ fn copy_send(
 
 fn copy_receive(
     alloc: Global,
-    port: &Id,
-    name: &Id,
-    into: &Option<Items<Id>>,
-    condition: &Option<Expr>,
-    block: &Option<Items<Expr>>,
+    port: &Boxed<Id>,
+    name: &Boxed<Id>,
+    into: &Option<Boxed<Items<Id>>>,
+    condition: &Option<Boxed<Expr>>,
+    block: &Option<Boxed<Items<Expr>>>,
 ) -> Result<StmtForm, AllocError>
     ensures { IfOk result (λ copy. copy ≡ StmtForm.Receive port.now name.now into.now condition.now
         block.now) }
 {
-    let names = both(port.copy(), name.copy());
-    let received = both(copy_part(alloc, into), copy_option(alloc, condition));
-    let all = both(both(names, received), copy_part(alloc, block));
+    let names = both(port.copied(alloc), name.copied(alloc));
+    let received = both(copy_option(alloc, into), copy_option(alloc, condition));
+    let all = both(both(names, received), copy_option(alloc, block));
     let (((port, name), (into, condition)), block) = all?;
     Ok(StmtForm::Receive {
         port,

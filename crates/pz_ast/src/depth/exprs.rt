@@ -2,7 +2,7 @@ ghost use Rattle.std.specs.Prelude.{◌≡◌, suc, ◌<◌, ◌^◌, map};
 ghost use Rattle.pz_syntax.specs.ExpressionView.{view, list_view, part_view, link_view, sending_view, links_of, sendings_of};
 ghost use Rattle.pz_syntax.specs.ExpressionNesting.{nesting, nestings, otherwise_nesting, links_nesting, sendings_nesting, bracketed_nesting};
 
-use pz_items::Items;
+use pz_items::{Boxed, Items};
 use pz_syntax::{Expr, ExprForm, Link, Sending};
 
 #[cycle(nest)]
@@ -18,24 +18,24 @@ pub(crate) fn expr_nesting(e: &Expr) -> u32
         ExprForm::New(_) => 0,
         ExprForm::Group(es) => 1 + exprs_nesting(es.as_slice()),
         ExprForm::Chain(first, links) => {
-            expr_nesting(first.get()).max(links_nesting(links.as_slice()))
+            expr_nesting(first.get()).max(links_nesting(links.get().as_slice()))
         }
         ExprForm::Sends(receiver, sendings) => {
-            expr_nesting(receiver.get()).max(sendings_nesting(sendings.as_slice()))
+            expr_nesting(receiver.get()).max(sendings_nesting(sendings.get().as_slice()))
         }
         ExprForm::Unary(_, operand) => 1 + expr_nesting(operand.get()),
         ExprForm::Assign(_, value) => expr_nesting(value.get()),
         ExprForm::Return(value) => expr_nesting(value.get()),
         ExprForm::If(test, body, other) => {
             let test = expr_nesting(test.get());
-            let body = exprs_nesting(body.as_slice());
-            match other {
+            let body = exprs_nesting(body.get().as_slice());
+            match other.get() {
                 None => 1 + test.max(body),
                 Some(other) => 1 + test.max(body.max(exprs_nesting(other.as_slice()))),
             }
         }
         ExprForm::While(test, body) => {
-            1 + expr_nesting(test.get()).max(exprs_nesting(body.as_slice()))
+            1 + expr_nesting(test.get()).max(exprs_nesting(body.get().as_slice()))
         }
     }
 }
@@ -79,12 +79,12 @@ fn sendings_nesting(sendings: &[Sending]) -> u32
 }
 
 /// Of expressions in brackets or braces, if these are written.
-pub(crate) fn bracketed_nesting(es: &Option<Items<Expr>>) -> u32
+pub(crate) fn bracketed_nesting(es: &Option<Boxed<Items<Expr>>>) -> u32
     requires { bracketed_nesting (part_view es.now) < 2 ^ 32 }
     ensures { result ≡ bracketed_nesting (part_view es.now) }
 {
     match es {
         None => 0,
-        Some(es) => 1 + exprs_nesting(es.as_slice()),
+        Some(es) => 1 + exprs_nesting(es.get().as_slice()),
     }
 }

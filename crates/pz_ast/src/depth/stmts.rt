@@ -6,7 +6,7 @@ ghost use Rattle.pz_syntax.specs.StatementView.{view, sequence_view, branches_of
 ghost use Rattle.pz_syntax.specs.StatementNesting.{reception_nesting, nesting, nestings, branches_nesting};
 
 use super::exprs::{bracketed_nesting, expr_nesting, exprs_nesting};
-use pz_items::Items;
+use pz_items::{Boxed, Items};
 use pz_syntax::{Expr, Id, Stmt, StmtForm};
 
 #[cycle(nest)]
@@ -24,10 +24,10 @@ fn stmt_nesting(statement: &Stmt) -> u32
         StmtForm::Sel(branches) => 1 + branches_nesting(branches.as_slice()),
         StmtForm::If(test, body, other) => {
             let test = expr_nesting(test);
-            let body = stmts_nesting(body.as_slice());
+            let body = stmts_nesting(body.get().as_slice());
             match other {
                 None => 1 + test.max(body),
-                Some(other) => 1 + test.max(body.max(stmts_nesting(other.as_slice()))),
+                Some(other) => 1 + test.max(body.max(stmts_nesting(other.get().as_slice()))),
             }
         }
         StmtForm::While(test, body) => 1 + expr_nesting(test).max(stmts_nesting(body.as_slice())),
@@ -77,13 +77,13 @@ fn branches_nesting(branches: &[Items<Stmt>]) -> u32
 }
 
 /// Of the variables and the condition of a reception in brackets, if these are written.
-fn reception_nesting(into: &Option<Items<Id>>, condition: &Option<Expr>) -> u32
+fn reception_nesting(into: &Option<Boxed<Items<Id>>>, condition: &Option<Boxed<Expr>>) -> u32
     requires { reception_nesting into.now (option_map expression_view.view condition.now) < 2 ^ 32 }
     ensures { result ≡ reception_nesting into.now (option_map expression_view.view condition.now) }
 {
     match (into, condition) {
         (None, _) => 0,
         (Some(_), None) => 1,
-        (Some(_), Some(condition)) => 1 + expr_nesting(condition),
+        (Some(_), Some(condition)) => 1 + expr_nesting(condition.get()),
     }
 }

@@ -4,7 +4,7 @@ ghost use Rattle.pz_syntax.specs.ExpressionText.{literal_kind, text, texts, link
 ghost use Rattle.pz_syntax.specs.ExpressionView.{view, list_view, part_view, link_view, sending_view, links_of, sendings_of};
 
 use super::marks::{put, put_keyword, put_selector, put_symbol, put_word};
-use pz_items::Items;
+use pz_items::{Boxed, Items};
 use pz_syntax::{Expr, ExprForm, Id, Keyword, Link, Literal, Mark, Sending, Symbol, TokenKind};
 use std::alloc::AllocError;
 
@@ -42,22 +42,22 @@ pub(crate) fn put_expr(out: &mut Items<Mark>, e: &Expr) -> Result<(), AllocError
         ExprForm::Var(name) => put(out, TokenKind::Ident(name.copy()?)),
         ExprForm::Me => put_keyword(out, Keyword::Me),
         ExprForm::Clock => put_keyword(out, Keyword::CurrentTime),
-        ExprForm::New(class) => put_creation(out, class),
+        ExprForm::New(class) => put_creation(out, class.get()),
         ExprForm::Group(es) => put_bracketed(out, Symbol::Semicolon, es.as_slice()),
         ExprForm::Chain(first, links) => {
             put_expr(out, first.get())?;
-            put_links(out, links.as_slice())
+            put_links(out, links.get().as_slice())
         }
         ExprForm::Sends(receiver, sendings) => {
             put_expr(out, receiver.get())?;
-            put_sendings(out, sendings.as_slice())
+            put_sendings(out, sendings.get().as_slice())
         }
         ExprForm::Unary(op, operand) => {
             put_symbol(out, *op)?;
             put_expr(out, operand.get())
         }
         ExprForm::Assign(variable, value) => {
-            put_word(out, variable)?;
+            put_word(out, variable.get())?;
             put_symbol(out, Symbol::Assign)?;
             put_expr(out, value.get())
         }
@@ -67,15 +67,15 @@ pub(crate) fn put_expr(out: &mut Items<Mark>, e: &Expr) -> Result<(), AllocError
         }
         ExprForm::If(test, body, other) => {
             put_test(out, Keyword::If, test.get(), Keyword::Then)?;
-            put_exprs(out, Symbol::Semicolon, body.as_slice())?;
-            if let Some(other) = other {
+            put_exprs(out, Symbol::Semicolon, body.get().as_slice())?;
+            if let Some(other) = other.get() {
                 put_otherwise(out, other.as_slice())?;
             }
             put_keyword(out, Keyword::Fi)
         }
         ExprForm::While(test, body) => {
             put_test(out, Keyword::While, test.get(), Keyword::Do)?;
-            put_exprs(out, Symbol::Semicolon, body.as_slice())?;
+            put_exprs(out, Symbol::Semicolon, body.get().as_slice())?;
             put_keyword(out, Keyword::Od)
         }
     }
@@ -165,12 +165,12 @@ fn put_sendings(out: &mut Items<Mark>, sendings: &[Sending]) -> Result<(), Alloc
 /// Arguments in brackets, if they are written.
 pub(crate) fn put_arguments(
     out: &mut Items<Mark>,
-    args: &Option<Items<Expr>>,
+    args: &Option<Boxed<Items<Expr>>>,
 ) -> Result<(), AllocError>
     ensures { OnOk result (out.new ≡ out.old ++ arguments_text (part_view args.now)) }
 {
     match args {
         None => Ok(()),
-        Some(args) => put_bracketed(out, Symbol::Comma, args.as_slice()),
+        Some(args) => put_bracketed(out, Symbol::Comma, args.get().as_slice()),
     }
 }

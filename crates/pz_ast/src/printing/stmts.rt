@@ -9,7 +9,7 @@ ghost use Rattle.pz_syntax.specs.StatementView.{view, sequence_view, sequence_of
 
 use super::exprs::{put_arguments, put_bracketed, put_expr, put_exprs, put_test};
 use super::marks::{Print, put_head, put_keyword, put_symbol, put_word};
-use pz_items::Items;
+use pz_items::{Boxed, Items};
 use pz_syntax::{Expr, Id, Keyword, Mark, Stmt, StmtForm, Symbol};
 use std::alloc::AllocError;
 
@@ -33,9 +33,9 @@ fn put_stmt(out: &mut Items<Mark>, statement: &Stmt) -> Result<(), AllocError>
         StmtForm::Sel(branches) => put_sel(out, branches.as_slice()),
         StmtForm::If(test, body, other) => {
             put_test(out, Keyword::If, test, Keyword::Then)?;
-            put_stmts(out, body.as_slice())?;
+            put_stmts(out, body.get().as_slice())?;
             if let Some(other) = other {
-                put_otherwise(out, other.as_slice())?;
+                put_otherwise(out, other.get().as_slice())?;
             }
             put_keyword(out, Keyword::Fi)
         }
@@ -57,20 +57,20 @@ fn put_stmt(out: &mut Items<Mark>, statement: &Stmt) -> Result<(), AllocError>
             name,
             args,
             block,
-        } => put_send(out, port, name, args, block),
+        } => put_send(out, port.get(), name.get(), args, block),
         StmtForm::Receive {
             port,
             name,
             into,
             condition,
             block,
-        } => put_receive(out, port, name, into, condition, block),
+        } => put_receive(out, port.get(), name.get(), into, condition, block),
         StmtForm::Call {
             method,
             args,
             results,
-        } => put_call(out, method, args.as_slice(), results),
-        StmtForm::Assign(variable, value) => put_assignment(out, variable, value),
+        } => put_call(out, method, args.as_slice(), results.get()),
+        StmtForm::Assign(variable, value) => put_assignment(out, variable.get(), value),
         StmtForm::Value(e) => put_expr(out, e),
     }
 }
@@ -185,12 +185,12 @@ fn put_assignment(out: &mut Items<Mark>, variable: &Id, value: &Expr) -> Result<
 }
 
 /// The block behind a message, if it is written.
-fn put_after(out: &mut Items<Mark>, block: &Option<Items<Expr>>) -> Result<(), AllocError>
+fn put_after(out: &mut Items<Mark>, block: &Option<Boxed<Items<Expr>>>) -> Result<(), AllocError>
     ensures { OnOk result (out.new ≡ out.old ++ after_text (part_view block.now)) }
 {
     match block {
         None => Ok(()),
-        Some(es) => put_block(out, es.as_slice()),
+        Some(es) => put_block(out, es.get().as_slice()),
     }
 }
 
@@ -198,8 +198,8 @@ fn put_send(
     out: &mut Items<Mark>,
     port: &Id,
     name: &Id,
-    args: &Option<Items<Expr>>,
-    block: &Option<Items<Expr>>,
+    args: &Option<Boxed<Items<Expr>>>,
+    block: &Option<Boxed<Items<Expr>>>,
 ) -> Result<(), AllocError>
     ensures { OnOk result (out.new ≡ out.old ++ word port.now ∷ symbol Symbol.Bang ∷ word name.now ∷
         (arguments_text (part_view args.now) ++ after_text (part_view block.now))) }
@@ -215,9 +215,9 @@ fn put_receive(
     out: &mut Items<Mark>,
     port: &Id,
     name: &Id,
-    into: &Option<Items<Id>>,
-    condition: &Option<Expr>,
-    block: &Option<Items<Expr>>,
+    into: &Option<Boxed<Items<Id>>>,
+    condition: &Option<Boxed<Expr>>,
+    block: &Option<Boxed<Items<Expr>>>,
 ) -> Result<(), AllocError>
     ensures { OnOk result (out.new ≡ out.old ++ word port.now ∷ symbol Symbol.Query ∷ word name.now
         ∷ (reception_text into.now (option_map expression_view.view condition.now) ++ after_text
@@ -227,7 +227,7 @@ fn put_receive(
     put_symbol(out, Symbol::Query)?;
     put_word(out, name)?;
     if let Some(into) = into {
-        put_reception(out, into, condition)?;
+        put_reception(out, into.get(), condition)?;
     }
     put_after(out, block)
 }
@@ -235,7 +235,7 @@ fn put_receive(
 fn put_reception(
     out: &mut Items<Mark>,
     into: &Items<Id>,
-    condition: &Option<Expr>,
+    condition: &Option<Boxed<Expr>>,
 ) -> Result<(), AllocError>
     ensures { OnOk result (out.new ≡ out.old ++ in_parentheses
         (names_text into.now ++ condition_text (option_map expression_view.view condition.now))) }
@@ -244,7 +244,7 @@ fn put_reception(
     into.print(out)?;
     if let Some(condition) = condition {
         put_symbol(out, Symbol::Bar)?;
-        put_expr(out, condition)?;
+        put_expr(out, condition.get())?;
     }
     put_symbol(out, Symbol::RightParen)
 }

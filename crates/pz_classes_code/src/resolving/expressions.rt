@@ -4,10 +4,9 @@ ghost use Rattle.pz_classes_code.specs.CodeView as code;
 ghost use Rattle.pz_classes_code.specs.Resolution.{resolved, resolved_all, resolved_part, resolved_links, resolved_sendings};
 ghost use Rattle.pz_classes_code.specs.ScopeView.{scope_view};
 
-use crate::resolving::both::both;
 use crate::scope::Scope;
 use crate::{Code, CodeForm, CodeLink, CodeSending};
-use pz_items::{Boxed, Items};
+use pz_items::{Boxed, Items, both};
 use pz_syntax::{Expr, ExprForm, Link, Pos, Sending};
 use std::alloc::{AllocError, Global};
 
@@ -37,16 +36,16 @@ fn resolve_form(
         ExprForm::Var(name) => Ok(CodeForm::Var(scope.slot(name))),
         ExprForm::Me => Ok(CodeForm::Me),
         ExprForm::Clock => Ok(CodeForm::Clock),
-        ExprForm::New(class) => Ok(CodeForm::New(scope.class(&class.name))),
+        ExprForm::New(class) => Ok(CodeForm::New(scope.class(&class.get().name))),
         ExprForm::Group(list) => Ok(CodeForm::Group(resolve_list(alloc, scope, list.as_slice())?)),
         ExprForm::Chain(first, links) => {
             let first = resolve_boxed(alloc, scope, first.get());
-            let (first, links) = both(first, resolve_links(alloc, scope, links.as_slice()))?;
+            let (first, links) = both(first, resolve_links(alloc, scope, links.get().as_slice()))?;
             Ok(CodeForm::Chain(first, links))
         }
         ExprForm::Sends(first, sendings) => {
             let first = resolve_boxed(alloc, scope, first.get());
-            let sendings = resolve_sendings(alloc, scope, sendings.as_slice());
+            let sendings = resolve_sendings(alloc, scope, sendings.get().as_slice());
             let (first, sendings) = both(first, sendings)?;
             Ok(CodeForm::Sends(first, sendings))
         }
@@ -55,29 +54,23 @@ fn resolve_form(
         }
         ExprForm::Assign(target, value) => {
             let value = resolve_boxed(alloc, scope, value.get())?;
-            Ok(CodeForm::Assign(scope.slot(&target.name), value))
+            Ok(CodeForm::Assign(scope.slot(&target.get().name), value))
         }
         ExprForm::Return(value) => {
             Ok(CodeForm::Return(resolve_boxed(alloc, scope, value.get())?))
         }
         ExprForm::If(test, part, rest) => {
             let test = resolve_boxed(alloc, scope, test.get());
-            let parts = both(test, resolve_list(alloc, scope, part.as_slice()));
-            match rest {
-                None => {
-                    let (test, part) = parts?;
-                    Ok(CodeForm::If(test, part, None))
-                }
-                Some(rest) => {
-                    let rest = resolve_list(alloc, scope, rest.as_slice());
-                    let ((test, part), rest) = both(parts, rest)?;
-                    Ok(CodeForm::If(test, part, Some(rest)))
-                }
-            }
+            let part = resolve_list(alloc, scope, part.get().as_slice());
+            let rest = resolve_written(alloc, scope, rest.get());
+            let parts = both(Boxed::of_result(alloc, part), Boxed::of_result(alloc, rest));
+            let (test, (part, rest)) = both(test, parts)?;
+            Ok(CodeForm::If(test, part, rest))
         }
         ExprForm::While(test, body) => {
             let test = resolve_boxed(alloc, scope, test.get());
-            let (test, body) = both(test, resolve_list(alloc, scope, body.as_slice()))?;
+            let body = resolve_list(alloc, scope, body.get().as_slice());
+            let (test, body) = both(test, body)?;
             Ok(CodeForm::While(test, body))
         }
     }
@@ -169,7 +162,8 @@ fn resolve_sending(
 }
 
 /// A list that is written or left out.
-pub(crate) fn resolve_part(
+#[cycle(resolve_expr)]
+fn resolve_written(
     alloc: Global,
     scope: &Scope,
     part: &Option<Items<Expr>>,

@@ -1,5 +1,4 @@
 // Trees with slots and numbers in place of names. The only error is want of memory.
-pub(crate) mod both;
 mod expressions;
 mod statements;
 

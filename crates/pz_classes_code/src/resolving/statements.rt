@@ -6,11 +6,10 @@ ghost use Rattle.pz_classes_code.specs.CodeView as code;
 ghost use Rattle.pz_classes_code.specs.Resolution.{resolved, resolved_all, resolved_part, slots_of, resolved_statement, resolved_statements, resolved_branches};
 ghost use Rattle.pz_classes_code.specs.ScopeView.{scope_view};
 
-use crate::resolving::both::both;
 use crate::resolving::expressions::{resolve, resolve_list};
 use crate::scope::Scope;
 use crate::{Code, CodeForm, Slot, Step, StepForm};
-use pz_items::{Boxed, Items, Shared};
+use pz_items::{Boxed, Items, Shared, both};
 use pz_syntax::{Expr, Id, Pos, Stmt, StmtForm};
 use std::alloc::{AllocError, Global};
 
@@ -56,7 +55,7 @@ fn resolve_form(
             Ok(StepForm::Sel(resolve_branches(alloc, scope, branches.as_slice())?))
         }
         StmtForm::If(test, part, rest) => {
-            let part = resolve_statements(alloc, scope, part.as_slice());
+            let part = resolve_statements(alloc, scope, part.get().as_slice());
             let parts = both(share_code(alloc, scope, test), part);
             match rest {
                 None => {
@@ -64,7 +63,7 @@ fn resolve_form(
                     Ok(StepForm::If(test, part, None))
                 }
                 Some(rest) => {
-                    let rest = resolve_statements(alloc, scope, rest.as_slice());
+                    let rest = resolve_statements(alloc, scope, rest.get().as_slice());
                     let ((test, part), rest) = both(parts, rest)?;
                     Ok(StepForm::If(test, part, Some(rest)))
                 }
@@ -92,21 +91,24 @@ fn resolve_form(
             name,
             args,
             block,
-        } => resolve_send(alloc, scope, port, name, args, block, pos),
+        } => resolve_send(alloc, scope, port.get(), name.get(), args, block, pos),
         StmtForm::Receive {
             port,
             name,
             into,
             condition,
             block,
-        } => resolve_receive(alloc, scope, port, name, into, condition, block, pos),
+        } => {
+            let (port, name) = (port.get(), name.get());
+            resolve_receive(alloc, scope, port, name, into, condition, block, pos)
+        }
         StmtForm::Call {
             method,
             args,
             results,
         } => {
             let args = share_codes(alloc, scope, args.as_slice());
-            let results = share_slots(alloc, scope, results.as_slice());
+            let results = share_slots(alloc, scope, results.get().as_slice());
             let (method, (args, results)) = both(share_name(alloc, method), both(args, results))?;
             Ok(StepForm::Call {
                 method,
@@ -114,7 +116,9 @@ fn resolve_form(
                 results,
             })
         }
-        StmtForm::Assign(target, value) => resolve_assignment(alloc, scope, target, value, pos),
+        StmtForm::Assign(target, value) => {
+            resolve_assignment(alloc, scope, target.get(), value, pos)
+        }
         StmtForm::Value(value) => Ok(StepForm::Eval(share_code(alloc, scope, value)?)),
     }
 }
@@ -149,8 +153,8 @@ fn resolve_send(
     scope: &Scope,
     port: &Id,
     name: &Id,
-    args: &Option<Items<Expr>>,
-    block: &Option<Items<Expr>>,
+    args: &Option<Boxed<Items<Expr>>>,
+    block: &Option<Boxed<Items<Expr>>>,
     pos: Pos,
 ) -> Result<StepForm, AllocError>
     ensures { IfOk result (λ f. step.form_view f pos ≡ resolved_statement (scope_view scope.now)
@@ -169,9 +173,9 @@ fn resolve_receive(
     scope: &Scope,
     port: &Id,
     name: &Id,
-    into: &Option<Items<Id>>,
-    condition: &Option<Expr>,
-    block: &Option<Items<Expr>>,
+    into: &Option<Boxed<Items<Id>>>,
+    condition: &Option<Boxed<Expr>>,
+    block: &Option<Boxed<Items<Expr>>>,
     pos: Pos,
 ) -> Result<StepForm, AllocError>
     ensures { IfOk result (λ f. step.form_view f pos ≡ resolved_statement (scope_view scope.now)
@@ -225,14 +229,14 @@ fn share_codes(
 fn share_part(
     alloc: Global,
     scope: &Scope,
-    part: &Option<Items<Expr>>,
+    part: &Option<Boxed<Items<Expr>>>,
 ) -> Result<Option<Shared<Items<Code>>>, AllocError>
     ensures { IfOk result (λ p. code.part_view p ≡ resolved_part (scope_view scope.now)
         (expression.part_view part.now)) }
 {
     match part {
         None => Ok(None),
-        Some(list) => Ok(Some(share_codes(alloc, scope, list.as_slice())?)),
+        Some(list) => Ok(Some(share_codes(alloc, scope, list.get().as_slice())?)),
     }
 }
 
@@ -240,13 +244,13 @@ fn share_part(
 fn resolve_into(
     alloc: Global,
     scope: &Scope,
-    into: &Option<Items<Id>>,
+    into: &Option<Boxed<Items<Id>>>,
 ) -> Result<Option<Shared<Items<Slot>>>, AllocError>
     ensures { IfOk result (λ slots. slots ≡ option_map (slots_of (scope_view scope.now)) into.now) }
 {
     match into {
         None => Ok(None),
-        Some(ids) => Ok(Some(share_slots(alloc, scope, ids.as_slice())?)),
+        Some(ids) => Ok(Some(share_slots(alloc, scope, ids.get().as_slice())?)),
     }
 }
 
@@ -254,14 +258,14 @@ fn resolve_into(
 fn resolve_condition(
     alloc: Global,
     scope: &Scope,
-    condition: &Option<Expr>,
+    condition: &Option<Boxed<Expr>>,
 ) -> Result<Option<Shared<Code>>, AllocError>
     ensures { IfOk result (λ c. option_map code.view c ≡ option_map
         (resolved (scope_view scope.now)) (option_map expression.view condition.now)) }
 {
     match condition {
         None => Ok(None),
-        Some(test) => Ok(Some(share_code(alloc, scope, test)?)),
+        Some(test) => Ok(Some(share_code(alloc, scope, test.get())?)),
     }
 }
 

@@ -4,7 +4,7 @@ use std::alloc::AllocError;
 
 /// Both, where both are there. So the drop of one where the other is not there is proved here, once
 /// for all types, and not for each tree that is made of several.
-pub(crate) fn both<T: Drop, U: Drop>(
+pub fn both<T: Drop, U: Drop>(
     first: Result<T, AllocError>,
     second: Result<U, AllocError>,
 ) -> Result<(T, U), AllocError>
