@@ -52,13 +52,14 @@ fn start_call(
     };
     let args = Shared::new(alloc, resolve_list(alloc, &scope, start.args.as_slice())?)?;
     let method = Shared::new(alloc, start.method.copy()?)?;
+    let form = StepForm::Call {
+        method,
+        args,
+        results: Shared::new(alloc, Items::new(alloc))?,
+    };
     Ok(Step {
         pos: start.method.pos,
-        form: StepForm::Call {
-            method,
-            args,
-            results: Shared::new(alloc, Items::new(alloc))?,
-        },
+        form: Shared::new(alloc, form)?,
     })
 }
 

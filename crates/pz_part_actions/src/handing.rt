@@ -70,7 +70,7 @@ pub fn hand(
     let Term::Leaf(step) = part else {
         unreachable!();
     };
-    match &step.form {
+    match step.form.get() {
         StepForm::Send { args, block, .. } => {
             hand_over(alloc, here, state, frame, step.pos, args, block)
         }

@@ -105,11 +105,11 @@ fn perform_step(
     ensures marks { OnOk result (state.new.marks ≡ state.old.marks) }
 {
     let pos = step.pos;
-    match &step.form {
+    match step.form.get() {
         StepForm::Skip => Ok(Ok(Term::Done)),
         // No time is left of it, and its evaluation leaves nothing.
         StepForm::Delay(_) => Ok(Ok(Term::Done)),
-        StepForm::Eval(code) => perform_value(alloc, here, state, frame, pos, code.get()),
+        StepForm::Eval(code) => perform_value(alloc, here, state, frame, pos, code),
         StepForm::Block(codes) => perform_block(
             alloc,
             here,

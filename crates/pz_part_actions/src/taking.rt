@@ -119,7 +119,7 @@ pub fn take(
     let Term::Leaf(step) = part else {
         unreachable!();
     };
-    match &step.form {
+    match step.form.get() {
         StepForm::Receive { into, block, .. } => {
             receive(alloc, here, state, frame, step.pos, into, block, parcel)
         }

@@ -103,7 +103,7 @@ fn form_within(home: &Home<'_>, step: &Step, room: u64) -> u64
     requires some { 1 ≤ room }
     ensures { result ≡ min (height (outlined (home_view home.now) (view step.now))) room }
 {
-    match &step.form {
+    match step.form.get() {
         StepForm::Guard(_, guarded) => {
             above(within(home, Spot::One(guarded.get()), room - 1), room)
         }

@@ -134,7 +134,7 @@ fn open_form(
         state.old.held) (term_view term) state.old state.new) }
     ensures marks { state.new.marks ≡ state.old.marks }
 {
-    match &step.form {
+    match step.form.get() {
         StepForm::Guard(test, guarded) => {
             let part = open_spot(alloc, home, Spot::One(guarded.get()), state)?;
             Ok(Term::Guard {

@@ -30,7 +30,7 @@ fn way_into<'s>(home: &Home<'s>, step: &'s Step) -> Option<Way<'s>>
     ensures { MatchOption result (StepStands (home_view home.now) (view step.now))
         (λ way. IsWay (home_view home.now) (alone (view step.now)) way) }
 {
-    match &step.form {
+    match step.form.get() {
         StepForm::Group(steps) => Some(Way {
             locals: None,
             steps,

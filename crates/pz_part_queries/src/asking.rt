@@ -77,7 +77,7 @@ pub fn ask_time(
     state: &mut State,
     frame: FrameId,
     pos: Pos,
-    time: &Shared<Code>,
+    time: &Code,
 ) -> Result<Result<u128, Trouble>, AllocError>
     requires { AreKnown here.now.classes.now }
     ensures lasts { (m : ModelTree) (class : ℕ) → Knows m here.now →
@@ -93,7 +93,7 @@ pub fn ask_time(
         state,
         frame,
         here.clock,
-        time.get(),
+        time,
         allowed,
     )?;
     Ok(duration_of(here.process, pos, outcome))

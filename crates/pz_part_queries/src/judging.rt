@@ -101,7 +101,7 @@ pub fn judge(
         into,
         condition,
         ..
-    } = &step.form
+    } = step.form.get()
     else {
         unreachable!()
     };

@@ -86,7 +86,7 @@ fn note_delay(
     state: &mut State,
     frame: FrameId,
     pos: Pos,
-    time: &Shared<Code>,
+    time: &Code,
     place: &Place,
     found: &mut Found,
 ) -> Result<(), AllocError>
@@ -194,7 +194,7 @@ pub(crate) fn note_step(
     ensures state { state.new ≡ state.old }
 {
     let pos = step.pos;
-    match &step.form {
+    match step.form.get() {
         StepForm::Skip => note_action(found, place, Kind::Skip, pos),
         StepForm::Eval(_) => note_action(found, place, Kind::Eval, pos),
         StepForm::Block(_) => note_action(found, place, Kind::Eval, pos),

@@ -49,7 +49,7 @@ fn time_left(
     ensures state { state.new ≡ state.old }
 {
     pz_rules::laws::evaluations_are_computed();
-    match &step.form {
+    match step.form.get() {
         StepForm::Delay(lasting) => {
             let left = ask_time(alloc, here, state, frame, step.pos, lasting)?;
             Ok(left.ok())

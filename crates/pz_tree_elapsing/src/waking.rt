@@ -47,7 +47,7 @@ pub(crate) fn wakes(kept: &Kept, clock: u128) -> bool
 fn statement_asks(step: &Step) -> bool
     ensures { result ≡ asked.statement_asks (view step.now) }
 {
-    match &step.form {
+    match step.form.get() {
         StepForm::Delay(_) => true,
         StepForm::Send { .. } => true,
         StepForm::Receive { .. } => false,
@@ -95,7 +95,7 @@ pub(crate) fn asks(head: &Head, below: &Kept) -> bool
 fn statement_asked_anew(step: &Step) -> bool
     ensures { result ≡ device.statement_asked_anew (view step.now) }
 {
-    match &step.form {
+    match step.form.get() {
         StepForm::Send { args, .. } => part_names_clock(args),
         StepForm::Delay(_) => false,
         StepForm::Receive { .. } => false,
@@ -168,7 +168,7 @@ fn silent(head: Head) -> What
 fn begins_at(step: &Step) -> Option<Pos>
     ensures { result ≡ device.begins_at (view step.now) }
 {
-    match &step.form {
+    match step.form.get() {
         StepForm::Delay(_) => Some(step.pos),
         StepForm::Send { .. } => None,
         StepForm::Receive { .. } => None,

@@ -54,7 +54,7 @@ fn action_of(step: &Step) -> Option<Doing>
     ensures { result ≡ statement_may_do (view step.now) }
 {
     let pos = step.pos;
-    let kind = match &step.form {
+    let kind = match step.form.get() {
         StepForm::Skip => Kind::Skip,
         StepForm::Eval(_) => Kind::Eval,
         StepForm::Block(_) => Kind::Eval,

@@ -16,7 +16,7 @@ use pz_offer::Summary;
 pub(crate) fn leaf_kept(step: &Step) -> Kept
     ensures { result ≡ statement_kept (view step.now) }
 {
-    match &step.form {
+    match step.form.get() {
         StepForm::Delay(_) => Kept::asked(),
         StepForm::Send { .. } => Kept::asked(),
         StepForm::Receive { condition, .. } => one_receive(condition_names_clock(condition)),

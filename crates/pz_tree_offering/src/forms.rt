@@ -42,7 +42,7 @@ fn count_of(into: &Option<Shared<Items<Slot>>>) -> usize
 pub(crate) fn send_form(step: &Step) -> Option<SendForm<'_>>
     ensures { IsSendForm (view step.now) result }
 {
-    match &step.form {
+    match step.form.get() {
         StepForm::Send {
             port,
             name,
@@ -75,7 +75,7 @@ pub(crate) fn send_form(step: &Step) -> Option<SendForm<'_>>
 pub(crate) fn receive_form(step: &Step) -> Option<ReceiveForm<'_>>
     ensures { IsReceiveForm (view step.now) result }
 {
-    match &step.form {
+    match step.form.get() {
         StepForm::Receive {
             port,
             name,

@@ -171,12 +171,12 @@ fn ask_step(
     ensures state { state.new ≡ state.old }
 {
     pz_rules::laws::evaluations_are_computed();
-    match &step.form {
+    match step.form.get() {
         StepForm::Delay(time) => {
             let answer = ask_time(alloc, here, state, spot.frame, step.pos, time)?;
             let own = delay_says(answer, spot.clock);
             Ok(Kept {
-                clocked: names_clock(time.get()),
+                clocked: names_clock(time),
                 ..own
             })
         }

@@ -163,8 +163,8 @@ fn show_statement(
 ) -> io::Result<()>
     requires { AreKnown asking.classes.now }
 {
-    match &step.form {
-        StepForm::Eval(code) => show_expression(rt, asking, state, code.get()),
+    match step.form.get() {
+        StepForm::Eval(code) => show_expression(rt, asking, state, code),
         StepForm::Block(codes) => show_block(rt, asking, state, codes.get().as_slice()),
         StepForm::Send {
             args: Some(args),

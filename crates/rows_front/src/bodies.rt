@@ -187,14 +187,14 @@ fn show_step_form(rt: &HostRuntime, form: &StepForm) -> io::Result<()> {
             block,
         } => show_receive(rt, *port, name.get(), into, condition, block.is_some()),
         StepForm::Sel(branches) => show_branches(rt, branches.get().as_slice()),
-        StepForm::Eval(code) => show_eval(rt, code.get()),
+        StepForm::Eval(code) => show_eval(rt, code),
         _ => print!(rt; "another form"),
     }
 }
 
 pub fn show_step(rt: &HostRuntime, step: &Step) -> io::Result<()> {
     print!(rt; "Step {{ pos: {:?}, form: ", step.pos)?;
-    show_step_form(rt, &step.form)?;
+    show_step_form(rt, step.form.get())?;
     print!(rt; " }}")
 }
 

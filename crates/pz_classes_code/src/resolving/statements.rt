@@ -20,7 +20,7 @@ fn resolve_statement(alloc: Global, scope: &Scope, stmt: &Stmt) -> Result<Step, 
 {
     Ok(Step {
         pos: stmt.pos,
-        form: resolve_form(alloc, scope, &stmt.form, stmt.pos)?,
+        form: Shared::new(alloc, resolve_form(alloc, scope, &stmt.form, stmt.pos)?)?,
     })
 }
 
@@ -36,7 +36,7 @@ fn resolve_form(
 {
     match form {
         StmtForm::Skip => Ok(StepForm::Skip),
-        StmtForm::Delay(time) => Ok(StepForm::Delay(share_code(alloc, scope, time)?)),
+        StmtForm::Delay(time) => Ok(StepForm::Delay(resolve(alloc, scope, time)?)),
         StmtForm::Group(list) => {
             Ok(StepForm::Group(resolve_statements(alloc, scope, list.as_slice())?))
         }
@@ -119,7 +119,7 @@ fn resolve_form(
         StmtForm::Assign(target, value) => {
             resolve_assignment(alloc, scope, target.get(), value, pos)
         }
-        StmtForm::Value(value) => Ok(StepForm::Eval(share_code(alloc, scope, value)?)),
+        StmtForm::Value(value) => Ok(StepForm::Eval(resolve(alloc, scope, value)?)),
     }
 }
 
@@ -145,7 +145,7 @@ fn resolve_assignment(
 {
     let value = Boxed::new(alloc, resolve(alloc, scope, value)?)?;
     let form = CodeForm::Assign(scope.slot(&target.name), value);
-    Ok(StepForm::Eval(Shared::new(alloc, Code { pos, form })?))
+    Ok(StepForm::Eval(Code { pos, form }))
 }
 
 fn resolve_send(
