@@ -26,8 +26,9 @@ returns-in-NoEscape c = string_bad_escape c.args.text.now c.items.at c.items.val
 
 pub returns-in-Closing : goal.returns-in-Closing
 returns-in-Closing c =
-    rw c.new.ensures
-    (string_closed c.args.text.now c.items.at c.items.values.items c.items.invariant.1 (seen_is 34 (drop c.items.at c.args.text.now) Seen.Closing (subst (λ t. Sees (inside_at 34 t) Seen.Closing) c.split_at.ensures.back c.in-Closing.ensures)))
+    rw c.in_ok-text-in-Closing.ensures
+    (rw c.new.ensures
+    (string_closed c.args.text.now c.items.at c.items.values.items c.items.invariant.1 (seen_is 34 (drop c.items.at c.args.text.now) Seen.Closing (subst (λ t. Sees (inside_at 34 t) Seen.Closing) c.split_at.ensures.back c.in-Closing.ensures))))
 
 pub returns-in-CutOff : goal.returns-in-CutOff
 returns-in-CutOff c = string_cut_off c.args.text.now c.items.at c.items.values.items c.items.invariant.1 (seen_is 34 (drop c.items.at c.args.text.now) Seen.CutOff (subst (λ t. Sees (inside_at 34 t) Seen.CutOff) c.split_at.ensures.back c.in-CutOff.ensures))
