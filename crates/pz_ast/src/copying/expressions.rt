@@ -47,11 +47,18 @@ fn copy_form(alloc: Global, form: &ExprForm) -> Result<ExprForm, AllocError>
         ExprForm::Return(value) => Ok(ExprForm::Return(copy_boxed(alloc, value.get())?)),
         ExprForm::If(test, part, rest) => {
             let test = copy_boxed(alloc, test.get());
-            let part = copy_list(alloc, part.get().as_slice());
-            let rest = copy_written(alloc, rest.get());
-            let parts = both(Boxed::of_result(alloc, part), Boxed::of_result(alloc, rest));
-            let (test, (part, rest)) = both(test, parts)?;
-            Ok(ExprForm::If(test, part, rest))
+            let parts = both(test, copy_list(alloc, part.get().as_slice()));
+            match rest.get() {
+                None => {
+                    let (test, part) = parts?;
+                    choice(alloc, test, part, None)
+                }
+                Some(rest) => {
+                    let rest = copy_list(alloc, rest.as_slice());
+                    let ((test, part), rest) = both(parts, rest)?;
+                    choice(alloc, test, part, Some(rest))
+                }
+            }
         }
         ExprForm::While(test, body) => {
             let test = copy_boxed(alloc, test.get());
@@ -81,18 +88,18 @@ pub(crate) fn copy_list(alloc: Global, list: &[Expr]) -> Result<Items<Expr>, All
     Ok(copy)
 }
 
-/// A list that is written or left out.
-#[cycle(copy_expr)]
-fn copy_written(
+/// An `if` of these parts.
+fn choice(
     alloc: Global,
-    list: &Option<Items<Expr>>,
-) -> Result<Option<Items<Expr>>, AllocError>
-    ensures { IfOk result (λ copy. copy ≡ list.now) }
+    test: Boxed<Expr>,
+    part: Items<Expr>,
+    rest: Option<Items<Expr>>,
+) -> Result<ExprForm, AllocError>
+    ensures { IfOk result (λ form. form ≡ ExprForm.If test part rest) }
 {
-    match list {
-        None => Ok(None),
-        Some(list) => Ok(Some(copy_list(alloc, list.as_slice())?)),
-    }
+    let parts = both(Boxed::new(alloc, part), Boxed::new(alloc, rest));
+    let (test, (part, rest)) = both(Ok(test), parts)?;
+    Ok(ExprForm::If(test, part, rest))
 }
 
 #[cycle(copy_expr)]

@@ -61,11 +61,18 @@ fn resolve_form(
         }
         ExprForm::If(test, part, rest) => {
             let test = resolve_boxed(alloc, scope, test.get());
-            let part = resolve_list(alloc, scope, part.get().as_slice());
-            let rest = resolve_written(alloc, scope, rest.get());
-            let parts = both(Boxed::of_result(alloc, part), Boxed::of_result(alloc, rest));
-            let (test, (part, rest)) = both(test, parts)?;
-            Ok(CodeForm::If(test, part, rest))
+            let parts = both(test, resolve_list(alloc, scope, part.get().as_slice()));
+            match rest.get() {
+                None => {
+                    let (test, part) = parts?;
+                    choice(alloc, test, part, None)
+                }
+                Some(rest) => {
+                    let rest = resolve_list(alloc, scope, rest.as_slice());
+                    let ((test, part), rest) = both(parts, rest)?;
+                    choice(alloc, test, part, Some(rest))
+                }
+            }
         }
         ExprForm::While(test, body) => {
             let test = resolve_boxed(alloc, scope, test.get());
@@ -161,18 +168,16 @@ fn resolve_sending(
     }
 }
 
-/// A list that is written or left out.
-#[cycle(resolve_expr)]
-fn resolve_written(
+/// An `if` of these parts.
+fn choice(
     alloc: Global,
-    scope: &Scope,
-    part: &Option<Items<Expr>>,
-) -> Result<Option<Items<Code>>, AllocError>
-    ensures { IfOk result (λ p. code.part_view p ≡ resolved_part (scope_view scope.now)
-        (tree.part_view part.now)) }
+    test: Boxed<Code>,
+    part: Items<Code>,
+    rest: Option<Items<Code>>,
+) -> Result<CodeForm, AllocError>
+    ensures { IfOk result (λ form. form ≡ CodeForm.If test part rest) }
 {
-    match part {
-        None => Ok(None),
-        Some(list) => Ok(Some(resolve_list(alloc, scope, list.as_slice())?)),
-    }
+    let parts = both(Boxed::new(alloc, part), Boxed::new(alloc, rest));
+    let (test, (part, rest)) = both(Ok(test), parts)?;
+    Ok(CodeForm::If(test, part, rest))
 }
