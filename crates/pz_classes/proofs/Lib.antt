@@ -37,3 +37,4 @@ mod WorkedBodies
 mod Weights
 pub mod FewMarks
 mod SoundNumbers
+mod StartCalls

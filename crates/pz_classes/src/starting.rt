@@ -16,10 +16,10 @@ ghost use Rattle.pz_classes.specs.devices.Surrounding.{scope_around, Numbers};
 use crate::declarations::declaration;
 use crate::members::Members;
 use crate::surroundings::{Surroundings, surround};
-use crate::{Step, StepForm};
+use crate::{Code, Step, StepForm};
 use pz_classes_code::{Numbering, Scope, resolve_list};
 use pz_items::{Items, Shared};
-use pz_syntax::{Decl, Model, Start};
+use pz_syntax::{Decl, Id, Model, Start};
 use std::alloc::{AllocError, Global};
 
 /// The `init` that the class of this number itself declares.
@@ -50,16 +50,25 @@ fn start_call(
         ports: &around.ports,
         classes,
     };
-    let args = Shared::new(alloc, resolve_list(alloc, &scope, start.args.as_slice())?)?;
-    let method = Shared::new(alloc, start.method.copy()?)?;
-    let form = StepForm::Call {
-        method,
-        args,
-        results: Shared::new(alloc, Items::new(alloc))?,
-    };
+    let args = resolve_list(alloc, &scope, start.args.as_slice())?;
+    let form = call_form(alloc, &start.method, args)?;
     Ok(Step {
         pos: start.method.pos,
         form: Shared::new(alloc, form)?,
+    })
+}
+
+/// A call of this method with these arguments and without results. The only error is want of memory.
+fn call_form(alloc: Global, method: &Id, args: Items<Code>) -> Result<StepForm, AllocError>
+    ensures { IfOk result (λ form. form ≡ StepForm.Call method.now args []) }
+{
+    let args = Shared::new(alloc, args)?;
+    let method = Shared::new(alloc, method.copy()?)?;
+    let results = Shared::new(alloc, Items::new(alloc))?;
+    Ok(StepForm::Call {
+        method,
+        args,
+        results,
     })
 }
 
