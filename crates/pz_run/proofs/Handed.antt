@@ -10,8 +10,8 @@ use Rattle.pz_rules.specs.Runs.{Ending, ended, deadlocked, troubled, halted, ref
 use Rattle.pz_trace.specs.declared.forms.Form.{Form}
 use Rattle.pz_trace.specs.TraceText.{run_ending}
 use Rattle.pz_trace.specs.Forms.{HasHeader}
+use Rattle.pz_lines.specs.Identifiers.{is_identifier}
 use Rattle.pz_watch.specs.Files.{NamedFormula, AreWatches, IsRefusedAt}
-use Rattle.pz_watch.specs.Names.{is_identifier}
 use Rattle.pz_watch.specs.declared.errors.ReadWatchesError.{ReadWatchesError}
 use Rattle.pz_watch.specs.declared.errors.ReadWatchesError.TheVariants as no_list
 use Rattle.pz_env_script.specs.declared.entry.Entry.{Entry}

@@ -8,12 +8,12 @@ use Rattle.pz_syntax.specs.Classes.{ModelTree}
 use Rattle.pz_classes.specs.Soundness.{IsSound}
 use Rattle.pz_rules.specs.Runs.{Event, Ending, ended, deadlocked, troubled, halted, refused}
 use Rattle.pz_term_simulator.specs.Simulations.{Simulation}
+use Rattle.pz_lines.specs.Identifiers.{is_identifier}
+use Rattle.pz_lines.proofs.IdentifierWords.{identifiers_are_words}
 use Rattle.pz_watch.specs.Points.{Point}
 use Rattle.pz_watch.specs.Files.{NamedFormula, AreWatches, IsRefusedAt}
-use Rattle.pz_watch.specs.Names.{is_identifier}
 use Rattle.pz_watch.specs.Breaking.{broken_at, AreBroken}
 use Rattle.pz_watch.specs.Laws.{IsOneList, IsNeverBoth}
-use Rattle.pz_watch.proofs.WatchLines.{identifiers_are_words}
 use Rattle.pz_watch_points.specs.EventPoints.{points_of}
 use Rattle.pz_run_playing.specs.declared.finale.Judged.{Judged}
 use Rattle.pz_run_playing.specs.Laws.{HasOneRun}

@@ -7,8 +7,8 @@ use Rattle.pz_words.specs.declared.jobs.Choice.{Choice}
 use Rattle.pz_words.specs.declared.jobs.RunLimits.{RunLimits}
 use Rattle.pz_words.specs.declared.jobs.Job.{Job}
 use Rattle.pz_words.specs.declared.jobs.Job.TheVariants.{Replay, Watch}
+use Rattle.pz_lines.specs.Identifiers.{is_identifier}
 use Rattle.pz_watch.specs.Files.{NamedFormula, AreWatches, IsRefusedAt}
-use Rattle.pz_watch.specs.Names.{is_identifier}
 use Rattle.pz_watch.specs.Breaking.{AreBroken}
 use Rattle.pz_watch_points.specs.EventPoints.{points_of}
 use Rattle.pz_run_reading.specs.Openings.{IsOpenModelOf}

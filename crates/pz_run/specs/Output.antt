@@ -21,8 +21,8 @@ use Rattle.pz_run_reading.specs.Openings.{IsOpenModelOf, IsRefusedToOpen}
 use Rattle.pz_run_reading.specs.Sizes.{HasSize}
 use Rattle.pz_run_formatting.specs.Layouts.{IsLayoutOf}
 use Rattle.pz_run_lines.specs.Lines.{usage_line, read_fault_line, too_long_line, accepted_line, model_refused_line, watch_refused_line, script_refused_line}
+use Rattle.pz_lines.specs.Identifiers.{is_identifier}
 use Rattle.pz_watch.specs.Files.{NamedFormula, AreWatches, IsRefusedAt}
-use Rattle.pz_watch.specs.Names.{is_identifier}
 use Rattle.pz_watch_points.specs.EventPoints.{points_of}
 use Rattle.pz_env_script.specs.declared.entry.Entry.{Entry}
 use Rattle.pz_env_closing.specs.DrivenRuns.{driven_text}

@@ -16,8 +16,8 @@ use Rattle.pz_trace.specs.declared.forms.Form.{Form}
 use Rattle.pz_trace.specs.Forms.{HasHeader}
 use Rattle.pz_trace.specs.TraceText.{run_ending, IsTrace}
 use Rattle.pz_gen.specs.Ring.{model as ring_text}
+use Rattle.pz_lines.specs.Identifiers.{is_identifier}
 use Rattle.pz_watch.specs.Files.{NamedFormula, AreWatches, IsRefusedAt}
-use Rattle.pz_watch.specs.Names.{is_identifier}
 use Rattle.pz_watch.specs.Breaking.{AreBroken}
 use Rattle.pz_watch_points.specs.EventPoints.{points_of}
 use Rattle.pz_env_script.specs.declared.entry.Entry.{Entry}

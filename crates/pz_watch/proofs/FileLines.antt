@@ -6,15 +6,18 @@ use Rattle.std.proofs.lemmas.Bool.{eqb-true}
 use Rattle.std.proofs.lemmas.List.{length-append}
 use Rattle.std.proofs.lemmas.List.Elements.{All-nil, All-push}
 use Rattle.std.proofs.lemmas.List.Splits.{join_with_byte-slice_split}
+use Rattle.pz_lines.specs.Words.{Words, over, is_end}
+use Rattle.pz_lines.specs.Identifiers.{is_identifier}
+use Rattle.pz_lines.specs.devices.Lacking.{Lacks, EachLacks}
+use Rattle.pz_lines.proofs.Cutting.{cut, lacks_not}
+use Rattle.pz_lines.proofs.IdentifierWords.{identifiers_are_words}
+use Rattle.pz_lines.proofs.Splits.{some_cut}
+use Rattle.pz_watch.specs.declared.errors.ReadWatchesError.TheVariants.{Refused}
 use Rattle.pz_watch.specs.declared.watch.Watch.{Watch}
 use Rattle.pz_watch.specs.Files.{NamedFormula, watch_text, watches_text, IsWatch, BeginsWithNone, IsRefusedAt, no_watch, too_many}
-use Rattle.pz_watch.specs.Names.{is_identifier}
 use Rattle.pz_watch.specs.devices.Standing.{StandsForNamed, StandForEach}
-use Rattle.pz_watch.specs.devices.Operators.{Words, over, is_end}
-use Rattle.pz_watch.specs.devices.Taking.{IsReadFrom, IsTaken, AreTaken, AreReadFrom, Lacks, EachLacks}
-use Rattle.pz_watch.proofs.Cutting.{cut, lacks_not}
+use Rattle.pz_watch.specs.devices.Taking.{IsReadFrom, IsTaken, AreTaken, AreReadFrom}
 use Rattle.pz_watch.proofs.Lists.{some_bytes, lacks_an_end}
-use Rattle.pz_watch.proofs.WatchLines.{identifiers_are_words, some_cut}
 
 abbrev pub text_of : Words → List ℕ
 text_of ls = join_with_byte 10 ls
@@ -28,6 +31,9 @@ line_alone line [] end = refl
 line_alone line (u ∷ us) end = absurd cc
 
 -- One line
+
+pub refused_same : (n k : ℕ) → Refused n ≡ Refused k → k ≡ n
+refused_same n k e = cc
 
 pub taken : (ls us : Words) (line : List ℕ) (watch : Watch) (before after : List Watch) → ls ≡ line ∷ us → over us ≡ false → IsReadFrom line watch → after ≡ before ++ watch ∷ [] → IsTaken (text_of ls) (text_of us) before after
 taken ls us line watch before after e more read added = record {

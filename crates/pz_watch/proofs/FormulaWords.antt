@@ -2,6 +2,7 @@
 -- of the words of another.
 use Rattle.std.proofs.Common.{◌≡◌, refl, sym, ap, ◌∙◌, append_assoc, ℕ, zero, suc, ◌+◌, ◌-◌, ◌≤◌, ◌<◌, ◌++◌, length, Some, None, arith}
 use Rattle.std.proofs.lemmas.List.{length-append}
+use Rattle.pz_lines.specs.Words.{Words}
 use Rattle.pz_watch.specs.declared.atoms.Atom.TheVariants.{Message, From, To, Kind, At, Pass}
 use Rattle.pz_watch.specs.declared.operators.One.{One}
 use Rattle.pz_watch.specs.declared.operators.One.TheVariants as one
@@ -11,7 +12,7 @@ use Rattle.pz_watch.specs.declared.operators.Operator.{Operator}
 use Rattle.pz_watch.specs.declared.operators.Operator.TheVariants as operator
 use Rattle.pz_watch.specs.Formulas.{Formula, line, negation, both, either, before, once, always, since}
 use Rattle.pz_watch.specs.Words.{words_of, CanBeWritten}
-use Rattle.pz_watch.specs.devices.Operators.{Words, Read, operator_in}
+use Rattle.pz_watch.specs.devices.Operators.{Read, operator_in}
 use Rattle.pz_watch.specs.devices.Making.{make_one, make_two, then_one, then_two, of_operator, by_operator, read}
 use Rattle.pz_watch.proofs.OperatorWords.{operator_words, IsWritten, Stands, operator_stands, operator_read}
 

@@ -4,12 +4,12 @@ use Rattle.std.specs.Prelude.{codes, eqb}
 use Rattle.std.specs.List.{All, slice_split}
 use Rattle.std.proofs.lemmas.List.{length-replicate}
 use Rattle.std.proofs.lemmas.List.Elements.{All-replicate}
+use Rattle.pz_lines.specs.Words.{Words}
+use Rattle.pz_lines.specs.Identifiers.{is_identifier}
 use Rattle.pz_watch.specs.declared.atoms.Atom.TheVariants.{Message, Kind, Pass}
 use Rattle.pz_watch.specs.Formulas.{Formula, line, negation, once}
 use Rattle.pz_watch.specs.Words.{words_of, CanBeWritten}
 use Rattle.pz_watch.specs.Files.{NamedFormula, watch_text, watches_text, IsWatch, AreWatches, IsRefusedAt, too_many}
-use Rattle.pz_watch.specs.Names.{is_identifier}
-use Rattle.pz_watch.specs.devices.Operators.{Words}
 use Rattle.pz_watch.specs.devices.Making.{read}
 use Rattle.pz_watch.proofs.WatchLines.{never_read, no_colon, no_front, no_formula, whole_none, whole_rest}
 

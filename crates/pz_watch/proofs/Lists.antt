@@ -3,13 +3,14 @@ use Rattle.std.proofs.Common.{◌≡◌, ◌≢◌, refl, sym, ap, ◌∙◌, ap
 use Rattle.std.specs.Prelude.{codes}
 use Rattle.std.specs.List.{All, join_with_byte}
 use Rattle.std.proofs.lemmas.List.{length-append}
+use Rattle.pz_lines.specs.devices.Lacking.{Lacks}
+use Rattle.pz_lines.proofs.Cutting.{lacks_both, tails, cut, lacks_blank, lacks_end, joined_lacks_end, each_lacks_blank, joins}
 use Rattle.pz_watch.specs.Formulas.{Formula}
 use Rattle.pz_watch.specs.Words.{words_of}
 use Rattle.pz_watch.specs.Files.{NamedFormula, watch_text, watches_text, IsWatch, AreWatches, BeginsWithNone, IsRefusedAt, empty, no_watch, too_many}
 use Rattle.pz_watch.specs.Laws.{NamesAreWords}
-use Rattle.pz_watch.specs.devices.Taking.{Lacks}
-use Rattle.pz_watch.proofs.Cutting.{lacks_both, tails, cut, lacks_blank, lacks_end, words_inside, joined_lacks_end, each_lacks_blank, joins}
 use Rattle.pz_watch.proofs.FormulaWords.{some_words, one_reading}
+use Rattle.pz_watch.proofs.Inside.{words_inside}
 
 split : (w : NamedFormula) (ws : List NamedFormula) (r : List ℕ) → watches_text (w ∷ ws) ++ r ≡ watch_text w ++ (10 ∷ (watches_text ws ++ r))
 split w ws r = append_assoc (watch_text w) (10 ∷ watches_text ws) r

@@ -1,5 +1,6 @@
 -- One step of the reading of a formula, by the operator that stands first.
 use Rattle.std.proofs.Common.{◌≡◌, ap, ◌∙◌, ℕ, ◌-◌, ◌<◌, Some, None, Result, Ok, Err, IfOk, IfErr}
+use Rattle.pz_lines.specs.Words.{Words}
 use Rattle.pz_watch.specs.declared.errors.ReadWatchError.{ReadWatchError}
 use Rattle.pz_watch.specs.declared.errors.ReadWatchError.TheVariants.{Malformed}
 use Rattle.pz_watch.specs.declared.atoms.Atom.{Atom}
@@ -10,7 +11,7 @@ use Rattle.pz_watch.specs.declared.operators.Operator.TheVariants as operator
 use Rattle.pz_watch.specs.declared.monitor.Monitor.{Monitor}
 use Rattle.pz_watch.specs.Formulas.{Formula, line}
 use Rattle.pz_watch.specs.devices.Standing.{IsFresh}
-use Rattle.pz_watch.specs.devices.Operators.{Words, Read, operator_in}
+use Rattle.pz_watch.specs.devices.Operators.{Read, operator_in}
 use Rattle.pz_watch.specs.devices.Making.{make_one, make_two, then_one, then_two, by_operator, read, ReadsAs, IsMadeWith}
 use Rattle.pz_watch.proofs.FormulaWords.{read_more}
 

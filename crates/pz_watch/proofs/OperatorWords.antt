@@ -18,10 +18,12 @@ use Rattle.pz_watch.specs.declared.operators.Two.TheVariants as two
 use Rattle.pz_watch.specs.declared.operators.Operator.{Operator}
 use Rattle.pz_watch.specs.declared.operators.Operator.TheVariants.{Line, One, Two}
 use Rattle.pz_lexer.specs.Spellings.{spelled}
+use Rattle.pz_lines.specs.Words.{Words, IsWord, is_word}
+use Rattle.pz_lines.specs.Numbers.{only_if, number_of}
+use Rattle.pz_lines.proofs.Numerals.{found, only_if_true, Tells, tells}
 use Rattle.pz_watch.specs.Formulas.{Bound}
-use Rattle.pz_watch.specs.Words.{IsWord, IsLineOfWords, IsBound, bound_word, line_words}
-use Rattle.pz_watch.specs.devices.Operators.{Words, Read, is_word, only_if, number_of, bound_in, keywords, said_of, named_at, with_bound, operator_of, by_keyword, operator_in}
-use Rattle.pz_watch.proofs.Numerals.{found, only_if_true, Tells, tells}
+use Rattle.pz_watch.specs.Words.{IsLineOfWords, IsBound, bound_word, line_words}
+use Rattle.pz_watch.specs.devices.Operators.{Read, bound_in, keywords, said_of, named_at, with_bound, operator_of, by_keyword, operator_in}
 
 -- the words of an operator
 abbrev pub operator_words : Operator → Words

@@ -1,25 +1,26 @@
 -- The words of a watch, and its line.
-use Rattle.std.proofs.Common.{◌≡◌, ◌≢◌, refl, sym, ap, subst, ◌∙◌, append-nil, ℕ, ◌≤◌, Bool, true, false, ◌&&◌, not, List, [], ◌∷◌, ◌++◌, length, Some, None, cond, eq-eqb, arith}
+use Rattle.std.proofs.Common.{◌≡◌, ◌≢◌, refl, sym, ap, subst, ◌∙◌, append-nil, ℕ, ◌≤◌, Bool, true, false, ◌&&◌, List, [], ◌∷◌, ◌++◌, length, Some, None, arith}
 use Rattle.std.specs.Prelude.{codes, bytes_eq, nat_le, eqb}
-use Rattle.std.specs.List.{list_all, join_with_byte, slice_split, onto_first}
-use Rattle.std.proofs.lemmas.Bool.{leb-true, le-leb, eqb-true}
-use Rattle.std.proofs.lemmas.Bool.Decides.{nat_tests}
+use Rattle.std.specs.List.{join_with_byte, slice_split}
+use Rattle.std.proofs.lemmas.Bool.{leb-true, le-leb}
 use Rattle.std.proofs.lemmas.Slice.Eq.{bytes_eq-Decides}
-use Rattle.std.proofs.lemmas.List.Splits.{join_with_byte-slice_split, length-slice_split}
-use Rattle.pz_lexer.specs.Bytes.{is_letter, is_word}
+use Rattle.std.proofs.lemmas.List.Splits.{join_with_byte-slice_split}
+use Rattle.pz_lines.specs.Words.{Words, over}
+use Rattle.pz_lines.specs.Identifiers.{is_identifier}
+use Rattle.pz_lines.proofs.Cutting.{lacks_blank, each_lacks_blank, joins}
+use Rattle.pz_lines.proofs.IdentifierWords.{identifiers_are_words}
+use Rattle.pz_lines.proofs.Splits.{split_lacks, some_cut}
 use Rattle.pz_watch.specs.declared.monitor.Monitor.{Monitor}
 use Rattle.pz_watch.specs.declared.watch.Watch.{Watch}
 use Rattle.pz_watch.specs.Formulas.{Formula}
-use Rattle.pz_watch.specs.Words.{words_of, CanBeWritten, is_inside}
+use Rattle.pz_watch.specs.Words.{words_of, CanBeWritten}
 use Rattle.pz_watch.specs.Files.{NamedFormula, watch_text, IsWatch}
-use Rattle.pz_watch.specs.Names.{is_identifier, is_reserved}
-use Rattle.pz_watch.specs.Laws.{NamesAreWords}
 use Rattle.pz_watch.specs.devices.Standing.{StandsFor, name_in}
-use Rattle.pz_watch.specs.devices.Operators.{Words, Read, over}
+use Rattle.pz_watch.specs.devices.Operators.{Read}
 use Rattle.pz_watch.specs.devices.Making.{read, ReadsAs}
-use Rattle.pz_watch.specs.devices.Taking.{is_front, IsOfFormula, AreOfNoFormula, IsMadeFrom, AreOfNoWatch, IsReadFrom, EachLacks}
-use Rattle.pz_watch.proofs.Cutting.{lacks_blank, each_lacks_blank, joins, words_inside}
+use Rattle.pz_watch.specs.devices.Taking.{is_front, IsOfFormula, AreOfNoFormula, IsMadeFrom, AreOfNoWatch, IsReadFrom}
 use Rattle.pz_watch.proofs.FormulaWords.{some_words, StandsThere, read_stands, reads}
+use Rattle.pz_watch.proofs.Inside.{words_inside}
 
 -- The formula
 
@@ -72,18 +73,6 @@ whole_more n ws rest m count told more = whole_rest n ws rest told.0 count told.
 pub whole_none : (n : ℕ) (ws : Words) → n ≡ length ws → read n ws ≡ None → AreOfNoFormula ws
 whole_none n ws count none = λ g written e. not_there g [] (read n ws) none (read_whole n ws count g written e)
 
--- Names
-
-word_byte : (b : ℕ) → is_word b ≡ true → 48 ≤ b
-word_byte b e = grind (arith, nat_tests)
-
-not_same : (b k : ℕ) → b ≢ k → not (eqb b k) ≡ true
-not_same b k differ = by_answer (eqb b k) (eqb-true b k)
-  where
-    by_answer : (r : Bool) → (r ≡ true → b ≡ k) → not r ≡ true
-    by_answer true same = absurd (differ (same refl))
-    by_answer false same = refl
-
 both_true : (a b : Bool) → a ≡ true → b ≡ true → a && b ≡ true
 both_true true b ea eb = eb
 both_true false b ea eb = ea
@@ -91,21 +80,6 @@ both_true false b ea eb = ea
 and_split : (a b : Bool) → a && b ≡ true → (a ≡ true) × (b ≡ true)
 and_split true b e = (refl, e)
 and_split false b e = absurd cc
-
-inside : (name : List ℕ) → list_all is_word name ≡ true → list_all is_inside name ≡ true
-inside [] e = refl
-inside (b ∷ bs) e =
-    let parts = and_split (is_word b) (list_all is_word bs) e in
-    let high : 48 ≤ b = word_byte b parts.0 in
-    both_true (is_inside b) (list_all is_inside bs)
-    (both_true (not (eqb b 32)) (not (eqb b 10)) (not_same b 32 (λ (same : b ≡ 32). omega arith)) (not_same b 10 (λ (same : b ≡ 10). omega arith)))
-    (inside bs parts.1)
-
-pub identifiers_are_words : NamesAreWords is_identifier
-identifiers_are_words [] e = absurd cc
-identifiers_are_words (b ∷ bs) e =
-    let parts = and_split (is_letter b) (list_all is_word (b ∷ bs) && not (is_reserved (b ∷ bs))) e in
-    record { some = λ (none : b ∷ bs ≡ []). cc; inside = inside (b ∷ bs) (and_split (list_all is_word (b ∷ bs)) (not (is_reserved (b ∷ bs))) parts.1).0 }
 
 -- The words of a watch
 
@@ -171,25 +145,8 @@ line_of name (w ∷ ws) some = refl
 watch_line : (w : NamedFormula) → join_with_byte 32 (w.name ∷ codes ":" ∷ words_of w.formula) ≡ watch_text w
 watch_line w = line_of w.name (words_of w.formula) (some_words w.formula)
 
-onto_lacks : (c x : ℕ) (parts : List (List ℕ)) → x ≢ c → EachLacks c parts → EachLacks c (onto_first x parts)
-onto_lacks c x [] differ told = ((differ, tt), tt)
-onto_lacks c x (p ∷ ps) differ told = ((differ, told.0), told.1)
-
-pub split_lacks : (c : ℕ) (t : List ℕ) → EachLacks c (slice_split (λ b. eqb b c) t)
-split_lacks c [] = (tt, tt)
-split_lacks c (x ∷ xs) = by (eqb x c) (λ (same : x ≡ c). eq-eqb x c same) (split_lacks c xs)
-  where
-    by : (v : Bool) → (x ≡ c → v ≡ true) → EachLacks c (slice_split (λ b. eqb b c) xs) → EachLacks c (cond v ([] ∷ slice_split (λ b. eqb b c) xs) (onto_first x (slice_split (λ b. eqb b c) xs)))
-    by true same told = (tt, told)
-    by false same told = onto_lacks c x (slice_split (λ b. eqb b c) xs) (λ (e : x ≡ c). (let never : false ≡ true = same e in cc)) told
-
-abbrev cuts : ℕ → List ℕ → List (List ℕ)
+abbrev cuts : ℕ → List ℕ → Words
 cuts c t = slice_split (λ b. eqb b c) t
-
-pub some_cut : (c : ℕ) (t : List ℕ) (parts : List (List ℕ)) → parts ≡ slice_split (λ b. eqb b c) t → 1 ≤ length parts
-some_cut c t parts e =
-    let count : length parts ≡ length (cuts c t) = ap (λ (ps : List (List ℕ)). length ps) e in
-    omega (arith, length-slice_split (λ b. eqb b c) t)
 
 pub read_from : (line : List ℕ) (parts : Words) (watch : Watch) → parts ≡ slice_split (λ b. eqb b 32) line → IsMadeFrom parts watch → IsReadFrom line watch
 read_from line parts watch cut made = record {

@@ -1,8 +1,9 @@
 -- Laws of what holds at a point, of the words of formulas, and of files.
 use Rattle.std.specs.Prelude.{◌≡◌, ◌<◌, ℕ, Bool, true, List, ◌++◌, length}
+use Rattle.pz_lines.specs.Words.{IsWord}
 use Rattle.pz_watch.specs.Points.{Point}
 use Rattle.pz_watch.specs.Formulas.{Formula, holds}
-use Rattle.pz_watch.specs.Words.{words_of, IsWord, CanBeWritten}
+use Rattle.pz_watch.specs.Words.{words_of, CanBeWritten}
 use Rattle.pz_watch.specs.Files.{NamedFormula, AreWatches, IsRefusedAt}
 
 -- what holds at a point of a run is the same however the run goes on

@@ -3,7 +3,6 @@ pub mod SpotView
 pub mod Formulas
 pub mod Words
 pub mod Files
-pub mod Names
 pub mod Breaking
 pub mod Laws
 pub mod devices

@@ -1,8 +1,7 @@
 -- The words of formulas: an operator stands before its parts, and a bound behind the operator.
-use Rattle.std.specs.Prelude.{◌≡◌, ◌≢◌, ◌<◌, ◌^◌, ℕ, Bool, true, ◌&&◌, not, ◌==◌, List, [], ◌∷◌, ◌++◌, Some, None, codes}
-use Rattle.std.specs.List.{list_all}
+use Rattle.std.specs.Prelude.{◌<◌, ◌^◌, ℕ, List, [], ◌∷◌, ◌++◌, Some, None, codes}
 use Rattle.std.specs.Fmt.{decimal}
-use Rattle.pz_items.specs.Characters.{byte}
+use Rattle.pz_lines.specs.Words.{IsWord}
 use Rattle.pz_watch.specs.declared.atoms.Atom.{Atom}
 use Rattle.pz_watch.specs.declared.atoms.Atom.TheVariants.{Message, From, To, Kind, At, Pass}
 use Rattle.pz_watch.specs.Formulas.{Bound, Formula, line, negation, both, either, before, once, always, since}
@@ -28,15 +27,6 @@ words_of (before f) = codes "before" ∷ words_of f
 words_of (once b f) = codes "once" ∷ bound_word b ∷ words_of f
 words_of (always b f) = codes "always" ∷ bound_word b ∷ words_of f
 words_of (since b f g) = codes "since" ∷ bound_word b ∷ (words_of f ++ words_of g)
-
--- no blank, and no end of a line
-abbrev pub is_inside : ℕ → Bool
-is_inside b = not (b == byte " ") && not (b == byte "\n")
-
--- one word: a byte or more, none of which ends it
-pub record IsWord (word : List ℕ) : Type 0 where
-  pub some : word ≢ []
-  pub inside : list_all is_inside word ≡ true
 
 -- each name, path and kind is a word; a keyword is one too
 abbrev pub IsLineOfWords : Atom → Type 0

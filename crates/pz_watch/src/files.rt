@@ -4,14 +4,14 @@ ghost use Rattle.std.specs.Prelude.{◌≡◌, ℕ, [], IfOk, IfErr, OnOk, false
 ghost use Rattle.std.specs.List.{join_with_byte};
 ghost use Rattle.pz_watch.specs.declared.errors.ReadWatchesError.TheVariants.{Refused};
 ghost use Rattle.pz_watch.specs.Files.{IsRefusedAt, BeginsWithNone};
-ghost use Rattle.pz_watch.specs.Names.{is_identifier};
-ghost use Rattle.pz_watch.specs.devices.Taking.{AreReadFrom, AreTaken, IsTaken, EachLacks};
-ghost use Rattle.pz_watch.specs.devices.Operators.{over};
+ghost use Rattle.pz_lines.specs.Words.{over};
+ghost use Rattle.pz_lines.specs.Identifiers.{is_identifier};
+ghost use Rattle.pz_lines.specs.devices.Lacking.{EachLacks};
+ghost use Rattle.pz_watch.specs.devices.Taking.{AreReadFrom, AreTaken, IsTaken};
 
-use crate::reading::split;
-use crate::words::Words;
 use crate::{ReadWatchError, ReadWatchesError, Watch};
 use pz_items::Items;
+use pz_lines::{Words, split};
 use std::alloc::Global;
 
 /// The most watches of a file.

@@ -5,8 +5,8 @@ ghost use Rattle.pz_watch.specs.declared.errors.ReadWatchError.TheVariants.{Malf
 ghost use Rattle.pz_watch.specs.devices.Making.{read, ReadsAs, IsMadeWith, make_two};
 
 use crate::operators::{Operator, Two, next_operator};
-use crate::words::Words;
 use crate::{Monitor, ReadWatchError};
+use pz_lines::Words;
 use std::alloc::Global;
 
 /// Takes a formula off the front of the words, with at most so many operators one inside the

@@ -8,14 +8,11 @@ mod files;
 mod formulas;
 pub mod laws;
 mod monitor;
-mod names;
-mod numbers;
 mod operators;
 mod reading;
 mod spot;
 mod watch;
 mod window;
-mod words;
 
 pub use atoms::Atom;
 pub use errors::{ReadWatchError, ReadWatchesError};

@@ -7,10 +7,9 @@ ghost use Rattle.pz_watch.specs.devices.Operators.{keywords, said_of, named_at, 
 ghost use Rattle.pz_watch.specs.devices.Making.{make_one, make_two};
 ghost use Rattle.pz_watch.specs.devices.Standing.{IsMadeOf, IsMadeOfBoth};
 
-use crate::numbers::number;
-use crate::words::{Words, is_word, text_of};
 use crate::{Atom, Monitor, ReadWatchError};
 use pz_items::Text;
+use pz_lines::{Words, is_word, number, text_of};
 use std::alloc::{AllocError, Global};
 
 /// What a word is compared with where something is said of a line.

@@ -1,17 +1,15 @@
 // Watches, read from their lines.
 
-ghost use Rattle.std.specs.Prelude.{◌≡◌, ◌≢◌, IfOk, IfErr, map, eqb};
-ghost use Rattle.std.specs.List.{slice_split};
+ghost use Rattle.std.specs.Prelude.{◌≡◌, ◌≢◌, IfOk, IfErr};
 ghost use Rattle.pz_watch.specs.declared.errors.ReadWatchError.TheVariants.{Malformed};
 ghost use Rattle.pz_watch.specs.Files.{NamedFormula, IsWatch, watch_text};
-ghost use Rattle.pz_watch.specs.Names.{is_identifier};
+ghost use Rattle.pz_lines.specs.Identifiers.{is_identifier};
 ghost use Rattle.pz_watch.specs.devices.Taking.{is_front, IsReadFrom, IsMadeFrom, AreOfNoWatch, IsOfFormula, AreOfNoFormula};
 
 use crate::formulas::formula;
-use crate::names::is_identifier;
-use crate::words::{Words, text_of};
 use crate::{Monitor, ReadWatchError, Watch};
-use std::alloc::{AllocError, Global};
+use pz_lines::{Words, is_identifier, split, text_of};
+use std::alloc::Global;
 
 /// The most words of a formula.
 const MOST_WORDS: usize = 1000;
@@ -26,14 +24,6 @@ impl Watch {
         let words = split(alloc, line, b' ')?;
         take_watch(alloc, &mut Words::new(words.as_slice()))
     }
-}
-
-/// What stands between bytes of this sort; where two of them meet, nothing.
-pub fn split<'a>(alloc: Global, text: &'a [u8], byte: u8) -> Result<Vec<&'a [u8]>, AllocError>
-    ensures { IfOk result (λ parts.
-        map (λ w. w.now) parts.items ≡ slice_split (λ b. eqb b byte) text.now) }
-{
-    text.split(|b| *b == byte).collect::<Vec<&[u8]>>(alloc)
 }
 
 /// The watch that all these words are: its name, a colon and its formula.

@@ -1,8 +1,8 @@
 -- What is said of a run that is judged.
 use Rattle.std.specs.Prelude.{◌≡◌, ℕ, List}
 use Rattle.pz_syntax.specs.Classes.{ModelTree}
+use Rattle.pz_lines.specs.Identifiers.{is_identifier}
 use Rattle.pz_watch.specs.Files.{NamedFormula, AreWatches, IsRefusedAt}
-use Rattle.pz_watch.specs.Names.{is_identifier}
 use Rattle.pz_watch.specs.Breaking.{AreBroken}
 use Rattle.pz_watch_points.specs.EventPoints.{points_of}
 use Rattle.pz_run.specs.declared.play.Play.{Play}

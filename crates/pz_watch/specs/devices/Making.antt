@@ -1,5 +1,6 @@
 -- Formulas read from the front of their words, operator by operator.
 use Rattle.std.specs.Prelude.{◌≡◌, ℕ, zero, suc, Some, None, Result, Ok, Err}
+use Rattle.pz_lines.specs.Words.{Words}
 use Rattle.pz_watch.specs.declared.operators.One.{One}
 use Rattle.pz_watch.specs.declared.operators.One.TheVariants as one
 use Rattle.pz_watch.specs.declared.operators.Two.{Two}
@@ -9,7 +10,7 @@ use Rattle.pz_watch.specs.declared.operators.Operator.TheVariants as operator
 use Rattle.pz_watch.specs.declared.monitor.Monitor.{Monitor}
 use Rattle.pz_watch.specs.declared.errors.ReadWatchError.{ReadWatchError}
 use Rattle.pz_watch.specs.Formulas.{Formula, line, negation, both, either, before, once, always, since}
-use Rattle.pz_watch.specs.devices.Operators.{Words, Read, operator_in}
+use Rattle.pz_watch.specs.devices.Operators.{Read, operator_in}
 use Rattle.pz_watch.specs.devices.Standing.{IsFresh}
 
 abbrev pub make_one : One → Formula → Formula

@@ -1,9 +1,8 @@
 -- Operators read from the front of the words that are left, as the code reads them.
-use Rattle.std.specs.Prelude.{ℕ, ◌^◌, nat_lt, Bool, true, false, ◌&&◌, ◌||◌, ◌==◌, not, if◌then◌else◌, bytes_eq, List, [], ◌∷◌, Option, Some, None, option_map, codes}
-use Rattle.std.specs.List.{list_all}
-use Rattle.std.specs.Fmt.{decimal}
-use Rattle.std.specs.Str.Parse.{digits_value}
+use Rattle.std.specs.Prelude.{ℕ, if◌then◌else◌, bytes_eq, List, [], ◌∷◌, Option, Some, None, option_map, codes}
 use Rattle.pz_lexer.specs.Spellings.{spelled}
+use Rattle.pz_lines.specs.Words.{Words, is_word}
+use Rattle.pz_lines.specs.Numbers.{only_if, number_of}
 use Rattle.pz_watch.specs.declared.atoms.Atom.{Atom}
 use Rattle.pz_watch.specs.declared.atoms.Atom.TheVariants as atom
 use Rattle.pz_watch.specs.declared.operators.Said.{Said}
@@ -15,46 +14,12 @@ use Rattle.pz_watch.specs.declared.operators.Two.TheVariants as two
 use Rattle.pz_watch.specs.declared.operators.Operator.{Operator}
 use Rattle.pz_watch.specs.declared.operators.Operator.TheVariants.{Line, One, Two}
 use Rattle.pz_watch.specs.Formulas.{Bound}
-use Rattle.pz_watch.specs.Words.{is_inside}
-
-abbrev pub Words : Type 0
-Words = List (List ℕ)
 
 -- what is read, and the words behind it
 abbrev pub Read : Type 0 → Type 0
 Read A = Option (A × Words)
 
-abbrev pub over : Words → Bool
-over [] = true
-over (w ∷ ws) = false
-
--- one with nothing in it, and no other
-abbrev pub is_end : Words → Bool
-is_end [] = false
-is_end ([] ∷ []) = true
-is_end ((b ∷ bs) ∷ []) = false
-is_end (w ∷ v ∷ ws) = false
-
-abbrev pub has_bytes : List ℕ → Bool
-has_bytes [] = false
-has_bytes (b ∷ bs) = true
-
-abbrev pub is_word : List ℕ → Bool
-is_word word = has_bytes word && list_all is_inside word
-
--- Numbers
-
-abbrev pub only_if : {A : Type 0} → Bool → A → Option A
-only_if b x = if b then Some x else None
-
-abbrev pub number_of : List ℕ → Option ℕ
-number_of word = only_if (nat_lt (digits_value 10 word) (2 ^ 64) && bytes_eq word (decimal (digits_value 10 word))) (digits_value 10 word)
-
--- no plus first, and no zero before more
-abbrev pub is_plain : List ℕ → Bool
-is_plain [] = true
-is_plain (b ∷ []) = not (b == 43) && (not (b == 48) || true)
-is_plain (b ∷ c ∷ bs) = not (b == 43) && (not (b == 48) || false)
+-- Bounds
 
 abbrev pub bound_in : List ℕ → Option Bound
 bound_in word = if bytes_eq word (codes "*") then Some None else option_map (λ n. Some n) (number_of word)

@@ -1,11 +1,11 @@
 -- Which watches are read from lines, and from words.
 use Rattle.std.specs.Prelude.{◌≡◌, ◌≢◌, ◌≤◌, ℕ, Bool, ◌&&◌, nat_le, bytes_eq, List, [], ◌∷◌, ◌++◌, length, All, codes}
+use Rattle.pz_lines.specs.Identifiers.{is_identifier}
 use Rattle.pz_watch.specs.declared.monitor.Monitor.{Monitor}
 use Rattle.pz_watch.specs.declared.watch.Watch.{Watch}
 use Rattle.pz_watch.specs.Formulas.{Formula}
 use Rattle.pz_watch.specs.Words.{words_of, CanBeWritten}
 use Rattle.pz_watch.specs.Files.{NamedFormula, watch_text, watches_text, most_words, most_watches, IsWatch, AreWatches}
-use Rattle.pz_watch.specs.Names.{is_identifier}
 use Rattle.pz_watch.specs.devices.Standing.{IsFresh, StandsForNamed, StandForEach}
 
 -- these are the words of a formula, for which the monitor is fresh
@@ -58,12 +58,3 @@ pub record AreReadFrom (text : List ℕ) (watches : List Watch) : Type 0 where
   pub named : List NamedFormula
   pub are_watches : AreWatches is_identifier text named
   pub stand : StandForEach watches named []
-
-abbrev pub Lacks : ℕ → List ℕ → Type 0
-Lacks c [] = Unit {0}
-Lacks c (b ∷ bs) = (b ≢ c) × Lacks c bs
-
--- the byte stands in none of them
-abbrev pub EachLacks : ℕ → List (List ℕ) → Type 0
-EachLacks c [] = Unit {0}
-EachLacks c (w ∷ ws) = Lacks c w × EachLacks c ws

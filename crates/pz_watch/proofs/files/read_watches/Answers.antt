@@ -2,13 +2,13 @@
 use Rattle.std.proofs.Common.{◌≡◌, sym, subst, ap, map, ◌∙◌, ℕ}
 use Rattle.std.specs.Prelude.{eqb}
 use Rattle.std.specs.List.{slice_split}
+use Rattle.pz_lines.specs.Identifiers.{is_identifier}
+use Rattle.pz_lines.specs.devices.Lacking.{EachLacks}
+use Rattle.pz_lines.proofs.HandedOn.{error_on}
+use Rattle.pz_lines.proofs.Splits.{split_lacks}
 use Rattle.pz_watch.specs.declared.errors.ReadWatchesError.TheVariants.{Refused}
 use Rattle.pz_watch.specs.Files.{IsRefusedAt, empty}
-use Rattle.pz_watch.specs.Names.{is_identifier}
-use Rattle.pz_watch.specs.devices.Taking.{EachLacks}
-use Rattle.pz_watch.proofs.HandedOn.{error_on, refused_same}
-use Rattle.pz_watch.proofs.WatchLines.{split_lacks}
-use Rattle.pz_watch.proofs.FileLines.{some_lines, file_read, file_refused, nothing, something}
+use Rattle.pz_watch.proofs.FileLines.{refused_same, some_lines, file_read, file_refused, nothing, something}
 use Rattle.pz_watch.proofs.files.read_watches.Goals as goal
 
 pub returns-then-is_empty-clause-refused : goal.returns-then-is_empty-clause-refused

@@ -1,7 +1,6 @@
 -- A line without an LF, and one of no watch.
 use Rattle.std.proofs.Common.{sym, ◌∙◌}
-use Rattle.pz_watch.proofs.HandedOn.{refused_same}
-use Rattle.pz_watch.proofs.FileLines.{last_line, bad_line}
+use Rattle.pz_watch.proofs.FileLines.{refused_same, last_line, bad_line}
 use Rattle.pz_watch.proofs.files.take_line.Goals as goal
 
 pub returns-then-is_over-clause-refused : goal.returns-then-is_over-clause-refused

@@ -1,11 +1,11 @@
 -- One line after the other is taken.
 use Rattle.std.proofs.Common.{◌≡◌, sym, subst, ◌∙◌, ℕ, ◌<◌, arith}
 use Rattle.std.specs.List.{join_with_byte}
+use Rattle.pz_lines.specs.Identifiers.{is_identifier}
+use Rattle.pz_lines.proofs.HandedOn.{error_on}
 use Rattle.pz_watch.specs.declared.errors.ReadWatchesError.TheVariants.{Refused}
 use Rattle.pz_watch.specs.Files.{IsRefusedAt}
-use Rattle.pz_watch.specs.Names.{is_identifier}
-use Rattle.pz_watch.proofs.HandedOn.{error_on, refused_same}
-use Rattle.pz_watch.proofs.FileLines.{starts, goes_on, refused_at, refused_many}
+use Rattle.pz_watch.proofs.FileLines.{refused_same, starts, goes_on, refused_at, refused_many}
 use Rattle.pz_watch.proofs.files.take_watches.Goals as goal
 
 pub loop-before-init : goal.loop-before-init

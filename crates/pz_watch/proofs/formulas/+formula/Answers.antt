@@ -1,9 +1,9 @@
 -- The operator that stands first decides.
 use Rattle.std.proofs.Common.{◌≡◌, ◌<◌, None, arith}
+use Rattle.pz_lines.proofs.HandedOn.{error_on}
 use Rattle.pz_watch.specs.declared.errors.ReadWatchError.TheVariants.{Malformed}
 use Rattle.pz_watch.specs.declared.operators.Operator.TheVariants as operator
 use Rattle.pz_watch.specs.devices.Making.{read}
-use Rattle.pz_watch.proofs.HandedOn.{error_on}
 use Rattle.pz_watch.proofs.FormulaWords.{read_none}
 use Rattle.pz_watch.proofs.Makings.{at_operator, no_operator, line_read, no_part, one_read, no_first, joined, not_joined}
 use Rattle.pz_watch.proofs.formulas.+formula.Goals as goal

@@ -1,8 +1,8 @@
 -- What is read is the whole, or no formula is.
 use Rattle.std.proofs.Common.{◌≡◌, sym, ◌∙◌}
+use Rattle.pz_lines.proofs.HandedOn.{error_on}
 use Rattle.pz_watch.specs.declared.errors.ReadWatchError.TheVariants.{Malformed}
 use Rattle.pz_watch.specs.devices.Taking.{AreOfNoFormula}
-use Rattle.pz_watch.proofs.HandedOn.{error_on}
 use Rattle.pz_watch.proofs.WatchLines.{whole_found, whole_more, whole_none}
 use Rattle.pz_watch.proofs.reading.take_formula.Goals as goal
 

@@ -1,8 +1,8 @@
 -- A name, a colon, and the words of a formula.
 use Rattle.std.proofs.Common.{◌≡◌, ℕ, sym, ap, ◌∙◌}
+use Rattle.pz_lines.proofs.HandedOn.{error_on}
 use Rattle.pz_watch.specs.declared.errors.ReadWatchError.TheVariants.{Malformed}
 use Rattle.pz_watch.specs.devices.Taking.{is_front, AreOfNoWatch}
-use Rattle.pz_watch.proofs.HandedOn.{error_on}
 use Rattle.pz_watch.proofs.WatchLines.{made_from, no_formula}
 use Rattle.pz_watch.proofs.reading.take_watch.Goals as goal
 

@@ -2,13 +2,13 @@
 use Rattle.std.proofs.Common.{◌≡◌, ◌≢◌, ◌∙◌, ap, map}
 use Rattle.std.specs.Prelude.{eqb}
 use Rattle.std.specs.List.{slice_split}
+use Rattle.pz_lines.specs.Identifiers.{is_identifier}
+use Rattle.pz_lines.proofs.HandedOn.{ok_more, err_more}
 use Rattle.pz_watch.specs.declared.errors.ReadWatchError.{ReadWatchError}
 use Rattle.pz_watch.specs.declared.errors.ReadWatchError.TheVariants.{Malformed}
 use Rattle.pz_watch.specs.declared.watch.Watch.{Watch}
 use Rattle.pz_watch.specs.Files.{NamedFormula, IsWatch, watch_text}
-use Rattle.pz_watch.specs.Names.{is_identifier}
 use Rattle.pz_watch.specs.devices.Taking.{IsMadeFrom, IsReadFrom, AreOfNoWatch}
-use Rattle.pz_watch.proofs.HandedOn.{ok_more, err_more}
 use Rattle.pz_watch.proofs.WatchLines.{read_from, never_read}
 use Rattle.pz_watch.proofs.watch.Watch.read.Goals as goal
 
