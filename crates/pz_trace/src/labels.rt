@@ -9,6 +9,7 @@ ghost use Rattle.pz_trace.specs.Labels as spec;
 ghost use Rattle.pz_trace.specs.Named.{IsNamed};
 
 use crate::names::{class_names, path, wire_name};
+use crate::numbers::put_place;
 use crate::words::kind_word;
 use pz_bind::Net;
 use pz_classes::Checked;
@@ -29,11 +30,11 @@ fn put_internal(
     ensures { (m : ModelTree) → ∥ IsNet m net.now ∥₁ →
         OnOk result (out.new.items ≡ out.old.items ++ spec.internal_label m process kind pos) }
 {
-    let kind = kind_word(kind);
-    let (line, column) = (pos.line, pos.column);
-    let step = format!(in *out.allocator(); " {kind} {line}:{column}")?;
     out.extend_from_slice(path(net, process))?;
-    out.extend_from_slice(step.as_bytes())
+    out.push(b' ')?;
+    out.extend_from_slice(kind_word(kind).as_bytes())?;
+    out.push(b' ')?;
+    put_place(out, pos)
 }
 
 // What a process sends, at the end of a text: its path, the message and the parcel.
