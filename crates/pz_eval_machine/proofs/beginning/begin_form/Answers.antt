@@ -1,4 +1,4 @@
-use Rattle.std.proofs.Common.{ap, subst, List, length}
+use Rattle.std.proofs.Common.{ap, subst, ◌∙◌, List, length, Option}
 use Rattle.pz_value.specs.declared.value.Value.{Value}
 use Rattle.pz_eval_rules.specs.Memories.{read}
 use Rattle.pz_eval_rules.specs.Answers.{gives}
@@ -10,6 +10,8 @@ use Rattle.pz_eval_machine.specs.devices.Tasks.{pending, meant, coming}
 use Rattle.pz_eval_machine.proofs.Going.{goes_same}
 use Rattle.pz_eval_machine.proofs.Forms.{at_literal, at_variable, at_me, at_clock, at_creation, at_group, at_chain, at_sends, at_unary, at_assign, at_return, at_choice, at_loop}
 use Rattle.std.proofs.Common.{ℕ, ◌+◌, sym}
+use Rattle.pz_classes_code.specs.declared.code.Code.{Code}
+use Rattle.pz_classes_code.specs.declared.code.CodeForm.TheVariants.{If}
 use Rattle.pz_classes_code.specs.CodeView.{form_view}
 use Rattle.pz_eval_machine.specs.devices.Weights.{weight, tasks_weight, load, Falls}
 use Rattle.pz_eval_machine.proofs.Within.{activation_wider}
@@ -160,7 +162,7 @@ returns-in-Return-clause-falls c =
 pub returns-in-If-clause-goes : goal.returns-in-If-clause-goes
 returns-in-If-clause-goes c model known =
     goes_same (coming model c.args.basis.clock c.begin_if.new.activation c.args.state.now.held c.begin_if.new.units) c.begin_if.result c.begin_if.new.units
-    (ap (λ x. and_then x (pending model c.args.basis.clock (place_of c.args.activation.now.site) c.args.activation.now.tasks.items)) (at_choice model c.args.basis.clock c.args.depth (place_of c.args.activation.now.site) c.args.at c.args.form.now (memory_at c.args.activation.now.site c.args.state.now.held c.args.activation.now.locals.items) c.args.units.now c.in-If.test c.get-in-If.result.now c.in-If.part c.as_slice-in-If.result.now c.in-If.other c.get-in-If.ensures c.as_slice-in-If.ensures c.in-If.is))
+    (ap (λ x. and_then x (pending model c.args.basis.clock (place_of c.args.activation.now.site) c.args.activation.now.tasks.items)) (at_choice model c.args.basis.clock c.args.depth (place_of c.args.activation.now.site) c.args.at c.args.form.now (memory_at c.args.activation.now.site c.args.state.now.held c.args.activation.now.locals.items) c.args.units.now c.in-If.test c.get-in-If.result.now c.in-If.part c.as_slice-in-If.result.now c.get-in-If-3.result.now c.get-in-If.ensures (c.as_slice-in-If.ensures ∙ c.get-in-If-2.ensures) (c.in-If.is ∙ ap (λ (o : Option (List Code)). If c.in-If.test c.in-If.part o) (sym c.get-in-If-3.ensures))))
     (c.begin_if.ensures.goes model c.args.basis.clock)
 
 pub returns-in-If-clause-falls : goal.returns-in-If-clause-falls
