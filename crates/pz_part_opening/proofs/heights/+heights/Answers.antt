@@ -18,11 +18,11 @@ branches_within-within-requires t c =
 pub form_within-returns-in_default : goal.form_within-returns-in_default
 form_within-returns-in_default t c =
     low (home_view c.args.home.now) c.args.step.now c.args.room c.requires.stands c.requires.some (record {
-      guard = c.in_default.not-Guard;
-      par = c.in_default.not-Par;
-      sel = c.in_default.not-Sel;
-      both = c.in_default.not-Abort;
-      again = c.in_default.not-Interrupt;
+      guard = λ e s is. c.in_default.not-Guard e s (c.get.ensures ∙ is);
+      par = λ bs is. c.in_default.not-Par bs (c.get.ensures ∙ is);
+      sel = λ bs is. c.in_default.not-Sel bs (c.get.ensures ∙ is);
+      both = λ ss s is. c.in_default.not-Abort ss s (c.get.ensures ∙ is);
+      again = λ ss s is. c.in_default.not-Interrupt ss s (c.get.ensures ∙ is);
     })
 
 pub standing_within-within-requires : goal.standing_within-within-requires

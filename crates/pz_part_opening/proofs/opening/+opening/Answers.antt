@@ -26,11 +26,11 @@ open_branches-loop-branch-preserved t c =
 pub open_form-returns-in_ok-copy-in_default : goal.open_form-returns-in_ok-copy-in_default
 open_form-returns-in_ok-copy-in_default t c =
     let others : IsOther c.args.step.now.form = record {
-      guard = c.in_default.not-Guard;
-      par = c.in_default.not-Par;
-      sel = c.in_default.not-Sel;
-      both = c.in_default.not-Abort;
-      again = c.in_default.not-Interrupt;
+      guard = λ e s is. c.in_default.not-Guard e s (c.get.ensures ∙ is);
+      par = λ bs is. c.in_default.not-Par bs (c.get.ensures ∙ is);
+      sel = λ bs is. c.in_default.not-Sel bs (c.get.ensures ∙ is);
+      both = λ ss s is. c.in_default.not-Abort ss s (c.get.ensures ∙ is);
+      again = λ ss s is. c.in_default.not-Interrupt ss s (c.get.ensures ∙ is);
     } in
     record {
       opened = leaf_became c.calls_unfold.ensures.stands c.calls_unfold.ensures.none (home_view c.args.home.now) (view c.args.step.now) (term_view (Leaf c.in_ok-copy-in_default.field-0)) c.args.state.now

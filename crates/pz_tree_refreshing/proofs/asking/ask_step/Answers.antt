@@ -15,7 +15,7 @@ returns-in_ok-answer-in-Delay-clause-says c m class known asked room =
     let s = c.args.step.now in
     let e = code.view c.in-Delay.time in
     let own = c.delay_says-own.result in
-    subst (λ (z : Step). SaysItself a f c.args.spot.clock z (record own { clocked = c.names_clock.result })) (sym (is_delay s c.in-Delay.time c.in-Delay.is))
+    subst (λ (z : Step). SaysItself a f c.args.spot.clock z (record own { clocked = c.names_clock.result })) (sym (is_delay s c.in-Delay.time (sym c.get.ensures ∙ c.in-Delay.is)))
     (delay_itself a f c.args.spot.clock s.pos e c.in_ok-answer-in-Delay.answer own (record own { clocked = c.names_clock.result })
     (c.evaluations_are_computed.ensures.times a f s.pos e c.in_ok-answer-in-Delay.answer (c.in_ok-answer-in-Delay.ensures.lasts m class known))
     (c.delay_says-own.ensures room)
