@@ -19,7 +19,7 @@ returns-in_ok-answer-in-Delay-clause-says c m class known asked room =
     (delay_itself a f c.args.spot.clock s.pos e c.in_ok-answer-in-Delay.answer own (record own { clocked = c.names_clock.result })
     (c.evaluations_are_computed.ensures.times a f s.pos e c.in_ok-answer-in-Delay.answer (c.in_ok-answer-in-Delay.ensures.lasts m class known))
     (c.delay_says-own.ensures room)
-    (ap (λ b. record own { clocked = b }) (c.names_clock.ensures ∙ ap (λ (z : Code). names_clock (code.view z)) c.get.ensures)))
+    (ap (λ b. record own { clocked = b }) c.names_clock.ensures))
 
 pub returns-in_ok-answer-in-Send-clause-says : goal.returns-in_ok-answer-in-Send-clause-says
 returns-in_ok-answer-in-Send-clause-says c m class known asked room =
