@@ -1,7 +1,5 @@
 use Rattle.std.proofs.Common.{◌∙◌, ap, sym, subst}
-use Rattle.pz_classes_code.specs.declared.code.Code.{Code}
 use Rattle.pz_classes_code.specs.CodeView as code
-use Rattle.pz_eval_rules.specs.Clocks.{names_clock}
 use Rattle.pz_part_queries.specs.Standpoints.{seen_from}
 use Rattle.pz_rules.specs.Terms.{Step}
 use Rattle.pz_tree_refreshing.specs.devices.Asked.{SaysItself}
@@ -28,7 +26,7 @@ returns-in_ok-answer-in-Send-clause-says c m class known asked room =
     let s = c.args.step.now in
     let own = c.send_says-own.result in
     let x = c.in-Send in
-    subst (λ (z : Step). SaysItself a f c.args.spot.clock z (record own { clocked = c.part_names_clock.result })) (sym (is_send s x.port x.name x.args x.block x.is))
+    subst (λ (z : Step). SaysItself a f c.args.spot.clock z (record own { clocked = c.part_names_clock.result })) (sym (is_send s x.port x.name x.args x.block (sym c.get.ensures ∙ x.is)))
     (send_itself a f c.args.spot.clock s.pos x.port x.name (code.part_view x.args) (code.part_view x.block) c.evaluations_are_computed.ensures.parts
     c.in_ok-answer-in-Send.answer (c.in_ok-answer-in-Send.ensures.packs m class known) own (record own { clocked = c.part_names_clock.result }) c.send_says-own.ensures
     (ap (λ b. record own { clocked = b }) c.part_names_clock.ensures))
