@@ -13,7 +13,7 @@ ghost use Rattle.pz_env.specs.devices.Making.{exchange_at, id_at};
 
 use crate::names::{VARIABLE, id_list, id_of};
 use pz_env_script::Transfer;
-use pz_items::{Boxed, Items, Shared, both};
+use pz_items::{Boxed, Items, Shared};
 use pz_syntax::{Expr, ExprForm, Id, Literal, Name, Pos, Stmt, StmtForm};
 use pz_value::Value;
 use std::alloc::{AllocError, Global};
@@ -64,7 +64,7 @@ fn arguments(
     if values.is_empty() {
         Ok(None)
     } else {
-        Ok(Some(Boxed::of_result(alloc, constants(alloc, at, values))?))
+        Ok(Some(Boxed::new(alloc, constants(alloc, at, values)?)?))
     }
 }
 
@@ -80,11 +80,8 @@ fn send(
         (arguments at values.now) left_out) }
 {
     let args = arguments(alloc, at, values)?;
-    let names = both(
-        Boxed::new(alloc, port),
-        Boxed::of_result(alloc, id_of(message, at)),
-    );
-    let (port, name) = names?;
+    let port = Boxed::new(alloc, port)?;
+    let name = Boxed::new(alloc, id_of(message, at)?)?;
     Ok(Stmt {
         pos: at,
         form: StmtForm::Send {
@@ -103,11 +100,8 @@ fn receive(alloc: Global, at: Pos, port: Id, message: &Name, count: u32) -> Resu
         (unless_none (replicate count (id_at variable_name at))) None left_out) }
 {
     let into = Boxed::of_option(alloc, id_list(alloc, VARIABLE, at, count as usize)?)?;
-    let names = both(
-        Boxed::new(alloc, port),
-        Boxed::of_result(alloc, id_of(message, at)),
-    );
-    let (port, name) = names?;
+    let port = Boxed::new(alloc, port)?;
+    let name = Boxed::new(alloc, id_of(message, at)?)?;
     Ok(Stmt {
         pos: at,
         form: StmtForm::Receive {
