@@ -87,15 +87,7 @@ pub fn ask_time(
     ensures state { state.new ≡ state.old }
 {
     let allowed = allowance(here.limits);
-    let outcome = try_eval(
-        alloc,
-        here.classes,
-        state,
-        frame,
-        here.clock,
-        time,
-        allowed,
-    )?;
+    let outcome = try_eval(alloc, here.classes, state, frame, here.clock, time, allowed)?;
     Ok(duration_of(here.process, pos, outcome))
 }
 
