@@ -1,6 +1,5 @@
 #!/usr/bin/env bash
-# Measures the front end with the checker on models of up to a mebibyte, one shape each. The last five have
-# as many trees for a byte of text as there can be, and no blanks.
+# Measures the front end with the checker on models of up to a mebibyte, one shape each.
 source "$(dirname "${BASH_SOURCE[0]}")/common.sh"
 uses rows_front bench none
 process='process class P(x : Integer) ports p messages p!m init s()() methods s()() p!m system'
@@ -15,6 +14,7 @@ process='process class P(x : Integer) ports p messages p!m init s()() methods s(
 { echo -n "$process instances"; pieces 10000 ' p% : P(x := %)'; echo -n ' channels {'; pieces 10000 ', p%.p' | sed 's/^, //'; echo '}'; } >"$room/many ends of a channel"
 { echo -n 'process class C0 init s()() methods s()() skip '; pieces 10000 'cluster class C% instances c : C@ '; echo 'system instances c : C10000'; } >"$room/clusters in a chain"
 { echo -n 'cluster class C0 instances c : C25000 '; pieces 25000 'cluster class C% instances c : C@ '; echo 'system instances c : C25000'; } >"$room/clusters in a ring"
+# (the last five have as many trees for a byte of text as there can be)
 body='process class A() ports p messages p!m, p?m variables x : Integer init s()() methods s()() '
 { echo -n "$body"; pieces 80000 'x := x + 1; '; echo 'skip system'; } >"$room/statements that assign"
 { echo -n "$body"; pieces 80000 'p?m; p!m; '; echo 'skip system'; } >"$room/messages"
