@@ -22,7 +22,7 @@ use Rattle.pz_env_script.specs.declared.entry.Entry.{Entry}
 use Rattle.pz_env_rules.specs.Environment.{Line, lines_from, lines_of}
 use Rattle.pz_env_tree.specs.Names.{class_name, instance_name}
 use Rattle.pz_env_tree.specs.Refusals.{IsFull, has_class, has_instance, IsPort, IsBadEntry, no_port, IsFirstRefused, no_room, bad_entry}
-use Rattle.pz_env_joined.proofs.Members.{first_in, later_in}
+use Rattle.pz_env_grown.proofs.Elements.{first_in, later_in}
 use Rattle.pz_env_joined.proofs.Places.{system_declared}
 
 pub in_got : {A : Type 0} (xs : List A) (x : A) → Contains xs x → (i : ℕ) × (slice_get xs i ≡ Some x)

@@ -1,9 +1,9 @@
 -- The bodies of methods, and the calls with which processes start, are the same in what has grown out of a
 -- sound model: each class that they create is one of the model.
-use Rattle.std.proofs.Common.{◌≡◌, refl, sym, ap, ◌∙◌, ℕ, zero, suc, Bool, true, false, List, [], ◌∷◌, ◌++◌, map, Option, Some, arith}
+use Rattle.std.proofs.Common.{◌≡◌, refl, sym, ap, ◌∙◌, ℕ, zero, suc, Bool, true, false, not, ◌&&◌, List, [], ◌∷◌, ◌++◌, map, Option, Some, None, IsTrue, arith}
 use Rattle.std.specs.Prelude.{if◌then◌else◌, cond}
 use Rattle.std.specs.List.{Contains}
-use Rattle.std.specs.Option.{unwrap_or}
+use Rattle.std.specs.Option.{option_map_or, option_and_then, unwrap_or}
 use Rattle.std.proofs.lemmas.List.Elements.{Contains-append_right}
 use Rattle.pz_syntax.specs.declared.names.Id.{Id}
 use Rattle.pz_syntax.specs.Expressions.{Expressions}
@@ -30,10 +30,22 @@ use Rattle.pz_classes.specs.Soundness.{IsSound, a_word}
 use Rattle.pz_classes.specs.Reached.{AncestorsAreReached}
 use Rattle.pz_classes.specs.Bodies.{place_in, scope_of, data_scope, process_scope, data_locals, process_locals}
 use Rattle.pz_classes.specs.Starts.{start_call}
-use Rattle.pz_env_joined.proofs.Alike.{Grown, IsDeclared}
-use Rattle.pz_env_joined.proofs.Lineage.{sort_known, not_both}
-use Rattle.pz_env_joined.proofs.Members.{first_in, later_in, fields_same, variables_same, ports_same}
+use Rattle.pz_env_grown.specs.Growth.{Grown}
+use Rattle.pz_env_grown.proofs.Elements.{first_in, later_in}
+use Rattle.pz_env_grown.proofs.Alike.{IsDeclared}
+use Rattle.pz_env_joined.proofs.Members.{fields_same, variables_same, ports_same}
 use Rattle.pz_env_joined.proofs.Resolving as resolving
+
+-- a name that stands for a class of some sort is that of a class
+sort_known : (f : ℕ → Option DeclTree) (sort : DeclTree → Bool) (o : Option ℕ)
+    → option_map_or sort (option_and_then f o) false ≡ true → (k : ℕ) × (o ≡ Some k)
+sort_known f sort None is = cc
+sort_known f sort (Some k) is = (k, refl)
+
+not_both : (a b : Bool) → a ≡ false → (IsTrue (not a && not b) → ⊥) → b ≡ true
+not_both _ true is never = refl
+not_both true false is never = cc
+not_both false false is never = absurd (never refl)
 
 pub map_same : {A B : Type 0} (f g : A → B) (xs : List A) → ((x : A) → Contains xs x → f x ≡ g x) → map f xs ≡ map g xs
 map_same f g [] each = refl

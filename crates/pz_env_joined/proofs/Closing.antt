@@ -1,15 +1,14 @@
 -- The model with the further channels, and the closed one, have grown out of the model.
-use Rattle.std.proofs.Common.{◌≡◌, refl, sym, ap, ◌∙◌, ℕ, zero, suc, ◌+◌, Bool, true, false, List, [], ◌∷◌, ◌++◌, map, length, Option, Some, None, slice_get, arith}
+use Rattle.std.proofs.Common.{◌≡◌, refl, sym, ap, ◌∙◌, ℕ, suc, ◌+◌, List, [], ◌∷◌, ◌++◌, map, length, Option, Some, None, arith}
 use Rattle.std.specs.Prelude.{codes}
 use Rattle.std.specs.List.{flat_map}
-use Rattle.std.specs.Option.{option_map, option_map_or, unwrap_or}
+use Rattle.std.specs.Option.{option_map_or, unwrap_or}
 use Rattle.std.proofs.lemmas.List.{length-append}
-use Rattle.std.proofs.lemmas.Option.{slice_get-map}
 use Rattle.pz_syntax.specs.declared.clusters.Instance.{Instance}
 use Rattle.pz_syntax.specs.declared.clusters.Channel.{Channel}
 use Rattle.pz_syntax.specs.declared.clusters.SystemDecl.{SystemDecl}
 use Rattle.pz_syntax.specs.Classes.{DeclTree, data_class, process_class, cluster_class, system, ModelTree}
-use Rattle.pz_classes.specs.Numbers.{is_named, declaration, first_named, class, spelling}
+use Rattle.pz_classes.specs.Numbers.{declaration, class, spelling}
 use Rattle.pz_classes.specs.Instances.{instances, channels}
 use Rattle.pz_classes.specs.Tables.{class_names}
 use Rattle.pz_classes.specs.SoundSystem.{SystemFits}
@@ -21,8 +20,10 @@ use Rattle.pz_env_rules.specs.Joining.{with_channels, decl_with, joined}
 use Rattle.pz_env_tree.specs.Names.{class_name}
 use Rattle.pz_env_tree.specs.EnvironmentClass.{environment_class}
 use Rattle.pz_env_tree.specs.ClosedTree.{environment, channel_of, closed_system, closed_decl, closed_by}
-use Rattle.pz_env_joined.proofs.Alike.{Alike, same, systems, no_more, one_more, Grown, grown_so, of_alike}
-use Rattle.pz_env_joined.proofs.Places.{got_first, system_declared}
+use Rattle.pz_env_grown.specs.Growth.{Alike, same, systems, Grown}
+use Rattle.pz_env_grown.proofs.Alike.{of_alike}
+use Rattle.pz_env_grown.proofs.Behind.{no_more, one_more, grown_so, changed, behind_there, behind_named}
+use Rattle.pz_env_joined.proofs.Places.{system_declared}
 
 pub append_nil : {A : Type 0} (xs : List A) → xs ≡ xs ++ []
 append_nil [] = refl
@@ -30,15 +31,9 @@ append_nil {A} (x ∷ xs) = ap (λ (ys : List A). x ∷ ys) (append_nil xs)
 
 -- made so from a list, and something behind it
 module _ (m n : ModelTree) (f : DeclTree → DeclTree) (es : List DeclTree) (is : n.decls ≡ map f m.decls ++ es) where
-  pub changed : (c : ℕ) (d : DeclTree) → declaration m c ≡ Some d → declaration n c ≡ Some (f d)
-  changed zero d at = cc
-  changed (suc i) d at =
-      ap (λ (ds : List DeclTree). slice_get ds i) is
-      ∙ got_first (map f m.decls) es i (f d) (slice_get-map f m.decls i ∙ ap (option_map f) at)
-
   changed_part : {A : Type 0} (part : DeclTree → List A) (c : ℕ) (d : DeclTree) → declaration m c ≡ Some d
       → option_map_or part (declaration n c) [] ≡ part (f d)
-  changed_part part c d at = ap (λ (o : Option DeclTree). option_map_or part o []) (changed c d at)
+  changed_part part c d at = ap (λ (o : Option DeclTree). option_map_or part o []) (changed f m n es is c d at)
 
   methods_of : (like : (d : DeclTree) → Alike d (f d)) (ds : List DeclTree)
       → length (flat_map declared_methods (map f ds ++ es)) ≡ length (flat_map declared_methods ds) + length (flat_map declared_methods es)
@@ -61,26 +56,6 @@ module _ (m n : ModelTree) (f : DeclTree → DeclTree) (es : List DeclTree) (is 
 
   pub more_names : ((d : DeclTree) → Alike d (f d)) → class_names n ≡ class_names m ++ map spelling es
   more_names like = ap (λ (ds : List DeclTree). codes "Array" ∷ map spelling ds) is ∙ ap (λ (names : List (List ℕ)). codes "Array" ∷ names) (names_of like m.decls)
-
--- the number of what is behind
-behind_named : (f : DeclTree → DeclTree) (like : (d : DeclTree) → Alike d (f d)) (e : DeclTree) (name : List ℕ)
-    → is_named name e ≡ true → (ds : List DeclTree) (k : ℕ) → first_named ds k name ≡ None
-    → first_named (map f ds ++ e ∷ []) k name ≡ Some (k + length ds)
-behind_named f like e name named [] k none = let eq : k ≡ k + 0 = omega arith in rw named (ap Some eq)
-behind_named f like e name named (d ∷ ds) k none = by (is_named name d) refl (behind_named f like e name named ds (suc k))
-  where
-    by : (b : Bool) → is_named name d ≡ b
-        → (first_named ds (suc k) name ≡ None → first_named (map f ds ++ e ∷ []) (suc k) name ≡ Some (suc k + length ds))
-        → first_named (map f (d ∷ ds) ++ e ∷ []) k name ≡ Some (k + length (d ∷ ds))
-    by true does rest = let wrong : Some k ≡ None = rw does at none in cc
-    by false does rest =
-        let other : is_named name (f d) ≡ false = sym (of_alike (is_named name) (λ s t. refl) d (f d) (like d)) ∙ does in
-        let eq : suc k + length ds ≡ k + suc (length ds) = omega arith in
-        rw other (rest (rw does at none) ∙ ap Some eq)
-
-behind_there : (f : DeclTree → DeclTree) (ds : List DeclTree) (e : DeclTree) → slice_get (map f ds ++ e ∷ []) (length ds) ≡ Some e
-behind_there f [] e = refl
-behind_there f (d ∷ ds) e = behind_there f ds e
 
 module _ (m : ModelTree) (lines : List Line) where
   abbrev j : ModelTree

@@ -32,7 +32,7 @@ use Rattle.pz_env_tree.specs.EnvironmentClass.{first_place, named, unless_none, 
 use Rattle.pz_env_tree.specs.EnvironmentClass as tree
 use Rattle.pz_env_tree.specs.ClosedTree.{closed_by}
 use Rattle.pz_env_mimics.specs.Environments.{literals, arguments, exchange, waiting, statements}
-use Rattle.pz_env_joined.proofs.Members.{first_in, later_in}
+use Rattle.pz_env_grown.proofs.Elements.{first_in, later_in}
 use Rattle.pz_env_joined.proofs.Closing.{env_class, env_declared}
 use Rattle.pz_env_joined.proofs.Firsts.{has_first, end_is}
 use Rattle.pz_env_joined.proofs.EnvironmentPorts.{port_placed, env_line, env_variables, env_ports}

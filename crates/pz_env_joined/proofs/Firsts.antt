@@ -6,7 +6,7 @@ use Rattle.std.proofs.lemmas.Slice.Eq.{bytes_eq-Decides}
 use Rattle.pz_env_rules.specs.Environment.{Line}
 use Rattle.pz_env_rules.specs.Ends.{is_same_end, first_mentions, IsEnd}
 use Rattle.pz_env_tree.specs.Names.{end_number}
-use Rattle.pz_env_joined.proofs.Members.{later_in}
+use Rattle.pz_env_grown.proofs.Elements.{later_in}
 
 -- Ends that are the same
 

@@ -5,35 +5,23 @@ use Rattle.std.specs.List.{Contains}
 use Rattle.std.specs.Option.{option_map_or, option_and_then, unwrap_or}
 use Rattle.pz_syntax.specs.declared.clusters.Instance.{Instance}
 use Rattle.pz_syntax.specs.Classes.{DeclTree, data_class, process_class, cluster_class, system, ModelTree}
-use Rattle.pz_classes_code.specs.ReservedNames.{is_primitive, is_unsupported}
+use Rattle.pz_classes_code.specs.ReservedNames.{is_primitive}
 use Rattle.pz_classes.specs.Numbers.{declaration, class}
 use Rattle.pz_classes.specs.Kinds.{is_process, is_cluster, is_declared_as}
 use Rattle.pz_classes.specs.NameRules.{has_instances}
 use Rattle.pz_classes.specs.Instances.{instances, instance_class}
 use Rattle.pz_classes.specs.SoundSystem.{SystemFits}
 use Rattle.pz_bind.specs.Nest.{is_system, instances_in, class_of}
-use Rattle.pz_env_joined.proofs.Alike.{Alike, same, systems, Grown, became, of_declared}
-use Rattle.pz_env_joined.proofs.Lineage.{class_declared}
+use Rattle.pz_env_grown.specs.Growth.{Alike, same, systems, Grown}
+use Rattle.pz_env_grown.proofs.Numbers.{class_declared}
+use Rattle.pz_env_grown.proofs.Alike.{became, of_declared}
+use Rattle.pz_env_grown.proofs.Paths.{class_named, part_of}
 
 -- a class that is no system
 pub record IsInner (m : ModelTree) (c : ℕ) : Type 0 where
   pub decl : DeclTree
   pub is : declaration m c ≡ Some decl
   pub inner : is_system decl ≡ false
-
--- what stands for a class that may have instances is one
-pub record IsClassOf (m : ModelTree) (name : List ℕ) (k : ℕ) : Type 0 where
-  pub supported : is_unsupported name ≡ false
-  pub has : has_instances m name ≡ true
-  pub class : class m name ≡ Some k
-
-pub class_is : (m : ModelTree) (name : List ℕ) (k : ℕ) → instance_class m name ≡ Some k → IsClassOf m name k
-class_is m name k is = by_tests (is_unsupported name) (has_instances m name) refl refl
-  where
-    by_tests : (u h : Bool) → is_unsupported name ≡ u → has_instances m name ≡ h → IsClassOf m name k
-    by_tests true h left_out has = let none : None ≡ Some k = rw left_out at is in cc
-    by_tests false false left_out has = let none : None ≡ Some k = rw (left_out, has) at is in cc
-    by_tests false true left_out has = record { supported = left_out; has = has; class = rw (left_out, has) at is }
 
 -- of a sort
 sort_is : (m : ModelTree) (sort : DeclTree → Bool) (name : List ℕ) (k : ℕ) → class m name ≡ Some k
@@ -46,22 +34,9 @@ not_system (process_class d) is = refl
 not_system (cluster_class d) is = refl
 not_system (system d) is = cc
 
-second_true : (a b : Bool) → a && b ≡ true → b ≡ true
-second_true true b is = is
-second_true false b is = cc
-
 pub class_inner : (m : ModelTree) (name : List ℕ) (k : ℕ) → instance_class m name ≡ Some k → IsInner m k
 class_inner m name k is =
-    let at = class_is m name k is in
-    let declared = class_declared m name k at.class in
-    let sort : is_declared_as is_process m name || is_declared_as is_cluster m name ≡ true = second_true (not (is_primitive name)) (is_declared_as is_process m name || is_declared_as is_cluster m name) at.has in
-    let one = sort_is m is_process name k at.class ∙ ap (λ (o : Option DeclTree). option_map_or is_process o false) declared.1 in
-    let other = sort_is m is_cluster name k at.class ∙ ap (λ (o : Option DeclTree). option_map_or is_cluster o false) declared.1 in
-    record {
-      decl = declared.0;
-      is = declared.1;
-      inner = not_system declared.0 (ap (λ (b : Bool). b || is_cluster declared.0) (sym one) ∙ ap (λ (b : Bool). is_declared_as is_process m name || b) (sym other) ∙ sort);
-    }
+    let part = part_of m name k is in record { decl = part.decl; is = part.declared; inner = not_system part.decl part.sort }
 
 module _ (m n : ModelTree) (grown : Grown m n) where
   sort_same : (sort : DeclTree → Bool) → ((s t : _) → sort (system s) ≡ sort (system t)) → (name : List ℕ) (k : ℕ)
@@ -73,15 +48,15 @@ module _ (m n : ModelTree) (grown : Grown m n) where
 
   pub instance_class_kept : (name : List ℕ) (k : ℕ) → instance_class m name ≡ Some k → instance_class n name ≡ Some k
   instance_class_kept name k is =
-      let at = class_is m name k is in
+      let at = class_named m name k is in
       let has : has_instances n name ≡ true =
-      ap (λ (b : Bool). not (is_primitive name) && (b || is_declared_as is_cluster n name)) (sort_same is_process (λ s t. refl) name k at.class)
-      ∙ ap (λ (b : Bool). not (is_primitive name) && (is_declared_as is_process m name || b)) (sort_same is_cluster (λ s t. refl) name k at.class)
-      ∙ at.has
+      ap (λ (b : Bool). not (is_primitive name) && (b || is_declared_as is_cluster n name)) (sort_same is_process (λ s t. refl) name k at.2)
+      ∙ ap (λ (b : Bool). not (is_primitive name) && (is_declared_as is_process m name || b)) (sort_same is_cluster (λ s t. refl) name k at.2)
+      ∙ at.1
       in
-      ap (λ (b : Bool). if b then None else if has_instances n name then class n name else None) at.supported
+      ap (λ (b : Bool). if b then None else if has_instances n name then class n name else None) at.0
       ∙ ap (λ (b : Bool). if b then class n name else None) has
-      ∙ grown.classes name k at.class
+      ∙ grown.classes name k at.2
 
   inner_stays : (d e : DeclTree) → is_system d ≡ false → Alike d e → d ≡ e
   inner_stays _ _ inner (same d) = refl

@@ -1,5 +1,3 @@
-mod Alike
-mod Lineage
 mod Resolving
 mod Members
 mod Bodies

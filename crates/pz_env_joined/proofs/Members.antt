@@ -13,15 +13,11 @@ use Rattle.pz_classes.specs.Members.{own_fields, own_variables, own_ports, from_
 use Rattle.pz_classes.specs.Methods.{nearest}
 use Rattle.pz_classes.specs.Reached.{AncestorsAreReached}
 use Rattle.pz_classes.specs.Soundness.{IsSound}
-use Rattle.pz_env_joined.proofs.Alike.{Grown, of_both, IsDeclared, of_declared}
-use Rattle.pz_env_joined.proofs.Lineage.{parent_declared, ancestors_same}
-
-module _ {A : Type 0} where
-  pub first_in : (x : A) (xs : List A) → Contains (x ∷ xs) x
-  first_in x xs = (0, omega arith, refl)
-
-  pub later_in : (x : A) (xs : List A) (y : A) → Contains xs y → Contains (x ∷ xs) y
-  later_in x xs y (k, low, is) = (suc k, omega (arith, low), is)
+use Rattle.pz_env_grown.specs.Growth.{Grown}
+use Rattle.pz_env_grown.proofs.Elements.{first_in, later_in}
+use Rattle.pz_env_grown.proofs.Alike.{of_both, IsDeclared, of_declared}
+use Rattle.pz_env_grown.proofs.Parents.{parent_declared}
+use Rattle.pz_env_grown.proofs.Kept.{ancestors_same}
 
 -- what some classes have, where each has the same of its own
 pub from_root_same : (own : DeclTree → List Id) (m n : ModelTree) (line : List ℕ)
@@ -50,11 +46,11 @@ module _ (m : ModelTree) (sound : IsSound m) where
           → suc i < suc (length (option_map_or (followed (parent m) k) o []))
           → slice_index_or (c ∷ option_map_or (followed (parent m) k) o []) (suc i) a ≡ a → IsDeclared m a
       by None up rest below there = absurd (omega (arith, below))
-      by (Some p) up rest below there = rest p (parent_declared m sound c p up) a (i, omega (arith, below), there)
+      by (Some p) up rest below there = rest p (parent_declared m c p up) a (i, omega (arith, below), there)
 
 module _ (m n : ModelTree) (reached : AncestorsAreReached) (sound : IsSound m) (grown : Grown m n) where
   pub line_same : (c : ℕ) → ancestors m c ≡ ancestors n c
-  line_same c = ancestors_same m n sound grown reached c
+  line_same c = ancestors_same m n sound reached grown c
 
   pub fields_same : (c : ℕ) → fields m c ≡ fields n c
   fields_same c =

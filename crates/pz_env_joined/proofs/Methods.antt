@@ -11,7 +11,8 @@ use Rattle.pz_classes.specs.Reached.{AncestorsAreReached}
 use Rattle.pz_classes.specs.Bodies.{data_body, process_body, data_scope, process_scope, data_locals, process_locals}
 use Rattle.pz_classes.specs.Starts.{own_start, start_call, own_call, init}
 use Rattle.pz_classes.specs.MethodBodies.{data_method_in, process_method_in, own_methods, first_body, own_body, body_with, method_body, process_method_body}
-use Rattle.pz_env_joined.proofs.Alike.{Alike, same, systems, Both, old, nothing, new, Grown, became, IsDeclared}
+use Rattle.pz_env_grown.specs.Growth.{Alike, same, systems, Both, old, nothing, new, Grown}
+use Rattle.pz_env_grown.proofs.Alike.{became, IsDeclared}
 use Rattle.pz_env_joined.proofs.Members.{nearest_same, line_declared, line_same}
 use Rattle.pz_env_joined.proofs.Bodies.{map_same, data_code_same, process_code_same, start_same}
 

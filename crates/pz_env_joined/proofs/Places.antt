@@ -13,10 +13,11 @@ use Rattle.pz_classes.specs.SizeRules.{system_of}
 use Rattle.pz_classes.specs.SoundSystem.{SystemFits}
 use Rattle.pz_bind_levels.specs.Places.{Address}
 use Rattle.pz_bind.specs.Nest.{first_system, each_instance, system_class, instances_in, class_of, class_at, instances_at, with_inside, inside, places, is_level, is_process_at, levels, processes}
-use Rattle.pz_env_joined.proofs.Alike.{Grown, IsDeclared, of_declared}
+use Rattle.pz_env_grown.specs.Growth.{Grown}
+use Rattle.pz_env_grown.proofs.Elements.{first_in, later_in}
+use Rattle.pz_env_grown.proofs.Alike.{IsDeclared, of_declared}
 use Rattle.pz_env_joined.proofs.Instances.{IsInner, class_inner, instance_class_kept, instances_same, instance_known, level_known, class_of_is}
 use Rattle.pz_env_joined.proofs.Depth.{no_deeper}
-use Rattle.pz_env_joined.proofs.Members.{first_in, later_in}
 
 pub got_in : {A : Type 0} (xs : List A) (i : ℕ) (x : A) → slice_get xs i ≡ Some x → Contains xs x
 got_in [] i x is = cc

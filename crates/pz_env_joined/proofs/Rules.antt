@@ -25,7 +25,8 @@ use Rattle.pz_env_tree.specs.Names.{class_name}
 use Rattle.pz_env_tree.specs.ClosedTree.{environment, closed_by}
 use Rattle.pz_env_tree.specs.Refusals.{IsFirstRefused}
 use Rattle.pz_env_same.specs.SameRules.{SameData, SameClass, SameProcess, SameRules}
-use Rattle.pz_env_joined.proofs.Alike.{Grown, IsDeclared}
+use Rattle.pz_env_grown.specs.Growth.{Grown}
+use Rattle.pz_env_grown.proofs.Alike.{IsDeclared}
 use Rattle.pz_env_joined.proofs.Members.{fields_same, ports_same}
 use Rattle.pz_env_joined.proofs.Methods.{method_body_same, process_method_body_same, init_same}
 use Rattle.pz_env_joined.proofs.Calls.{calls_same}

@@ -19,7 +19,7 @@ use Rattle.pz_bind_levels.specs.Places.{Address}
 use Rattle.pz_bind.specs.Nest.{system_class, instances_in, class_at, instance_at}
 use Rattle.pz_bind.specs.Names.{name_at, path}
 use Rattle.pz_bind.specs.Values.{argument_value, given_value, parameter_at, values_at}
-use Rattle.pz_env_joined.proofs.Alike.{Grown}
+use Rattle.pz_env_grown.specs.Growth.{Grown}
 use Rattle.pz_env_joined.proofs.Members.{variables_same}
 use Rattle.pz_env_joined.proofs.Places.{Stands, inside_of, class_at_same, instance_kept, declared_at}
 

@@ -26,8 +26,8 @@ use Rattle.pz_classes.specs.RepeatRules.{Repeats}
 use Rattle.pz_classes.specs.ChannelRules.{end_place, ends, instance_named, has_port, breaks_c16, BreaksC16, no_end, same_end, both_outer, BreaksC17, again_end, again_outer}
 use Rattle.pz_classes.specs.SoundSystem.{SoundSystemsFit}
 use Rattle.pz_classes.specs.Soundness.{IsSound, an_end, two_ends}
-use Rattle.pz_env_sound.proofs.Numbers.{none_some, some_same}
-use Rattle.pz_env_sound.proofs.WaysUp.{none_in, first_in, later_in}
+use Rattle.pz_env_grown.proofs.Elements.{none_in, first_in, later_in}
+use Rattle.pz_env_grown.proofs.Numbers.{none_some, some_same}
 use Rattle.pz_env_sound.proofs.Grown.{grown_decl, grown, IsDeclared, old, new, declared, declared_other, cluster_same}
 use Rattle.pz_env_sound.proofs.Members.{ports_same}
 use Rattle.pz_env_sound.proofs.NewParts.{IsFresh, Gains}

@@ -16,9 +16,10 @@ use Rattle.pz_classes.specs.Ancestors.{extended, parent}
 use Rattle.pz_classes.specs.Reached.{AncestorsAreReached}
 use Rattle.pz_classes.specs.Violations.{is_again, breaks_c1, same_sort, is_of_sort, may_extend, breaks_c2, Violates, c1, c2, c3}
 use Rattle.pz_classes.specs.Soundness.{IsSound}
-use Rattle.pz_env_sound.proofs.Numbers.{none_some, some_same}
+use Rattle.pz_env_grown.proofs.Numbers.{none_some, some_same}
+use Rattle.pz_env_grown.proofs.Parents.{parent_within}
 use Rattle.pz_env_sound.proofs.Grown.{grown_decl, grown, IsDeclared, old, new, declared, declared_other, class_kept, class_new, sort_kept, data_same}
-use Rattle.pz_env_sound.proofs.Ancestors.{extended_same, parent_within, parent_same, parent_new, ancestors_same}
+use Rattle.pz_env_sound.proofs.Ancestors.{extended_same, parent_same, parent_new, ancestors_same}
 use Rattle.pz_env_sound.proofs.NewParts.{IsFresh}
 use Rattle.pz_env_sound.proofs.Tests.{fewer}
 

@@ -15,7 +15,7 @@ use Rattle.pz_env_script.specs.declared.entry.Transfer.TheVariants.{Send, Receiv
 use Rattle.pz_env_rules.specs.Environment.{Line, lines_of}
 use Rattle.pz_env_tree.specs.EnvironmentClass.{exchange, statements, method_of, environment_class}
 use Rattle.pz_env_tree.specs.ClosedTree.{environment, closed_system, closed_tree}
-use Rattle.pz_env_sound.proofs.WaysUp.{first_in}
+use Rattle.pz_env_grown.proofs.Elements.{first_in}
 use Rattle.pz_env_sound.proofs.Openings.{grown_opens}
 use Rattle.pz_env_sound.proofs.SystemSize.{system_declared}
 use Rattle.pz_env_sound.proofs.GrownSound.{IsNew, grown_is_sound}

@@ -4,8 +4,8 @@ use Rattle.std.specs.List.{Contains, AllByRecursion, filter}
 use Rattle.std.proofs.lemmas.Bool.{both_ways}
 use Rattle.pz_syntax.specs.declared.tokens.Pos.{Pos}
 use Rattle.pz_classes.specs.RepeatRules.{Repeats}
-use Rattle.pz_env_sound.proofs.Numbers.{none_some, some_same}
-use Rattle.pz_env_sound.proofs.WaysUp.{none_in, first_in, later_in, in_cases}
+use Rattle.pz_env_grown.proofs.Elements.{none_in, first_in, later_in, in_cases}
+use Rattle.pz_env_grown.proofs.Numbers.{none_some, some_same}
 
 -- each passes what all pass
 pub all_of_each : {A : Type 0} (P : A → Type 0) (xs : List A) → ((x : A) → Contains xs x → P x) → AllByRecursion P xs

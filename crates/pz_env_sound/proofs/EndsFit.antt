@@ -27,7 +27,7 @@ use Rattle.pz_env_tree.specs.Names.{instance_name, port_of}
 use Rattle.pz_env_tree.specs.EnvironmentClass.{environment_class}
 use Rattle.pz_env_tree.specs.ClosedTree.{environment, closed_system}
 use Rattle.pz_env_tree.specs.devices.Refused as refused
-use Rattle.pz_env_sound.proofs.Numbers.{some_same}
+use Rattle.pz_env_grown.proofs.Numbers.{some_same}
 use Rattle.pz_env_sound.proofs.Grown.{grown}
 use Rattle.pz_env_sound.proofs.NewParts.{IsFresh, Gains}
 use Rattle.pz_env_sound.proofs.RepeatsInParts.{at_place}

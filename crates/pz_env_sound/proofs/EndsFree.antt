@@ -25,7 +25,7 @@ use Rattle.pz_env_rules.specs.Ends.{first_mentions}
 use Rattle.pz_env_tree.specs.Names.{instance_name}
 use Rattle.pz_env_tree.specs.EnvironmentClass.{environment_class}
 use Rattle.pz_env_tree.specs.ClosedTree.{environment, channel_of, closed_system}
-use Rattle.pz_env_sound.proofs.Numbers.{none_some, some_same}
+use Rattle.pz_env_grown.proofs.Numbers.{none_some, some_same}
 use Rattle.pz_env_sound.proofs.Grown.{grown}
 use Rattle.pz_env_sound.proofs.Channels.{ends_of, found_in, AreNewEnds}
 use Rattle.pz_env_sound.proofs.Distinct.{no_repeat}

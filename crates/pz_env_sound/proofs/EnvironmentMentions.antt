@@ -22,7 +22,7 @@ use Rattle.pz_env_rules.specs.Environment.{Line, at_line}
 use Rattle.pz_env_rules.specs.Ends.{named_at}
 use Rattle.pz_env_tree.specs.Names.{class_name, method_name, variable_name, kind_name, port_of}
 use Rattle.pz_env_tree.specs.EnvironmentClass.{named, is_sent, first_messages, unless_none, message_of, literal_of, literals, arguments, exchange, statements, method_of, environment_class}
-use Rattle.pz_env_sound.proofs.WaysUp.{none_in, first_in, later_in, in_cases}
+use Rattle.pz_env_grown.proofs.Elements.{none_in, first_in, later_in, in_cases}
 use Rattle.pz_env_sound.proofs.Distinct.{each_of_all, all_both}
 use Rattle.pz_env_sound.proofs.Ports.{message_in}
 

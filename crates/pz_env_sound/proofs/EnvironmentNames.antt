@@ -18,7 +18,7 @@ use Rattle.pz_env_rules.specs.Environment.{Line}
 use Rattle.pz_env_rules.specs.Ends.{first_mentions, named_at}
 use Rattle.pz_env_tree.specs.Names.{variable_name, kind_name, port_of}
 use Rattle.pz_env_tree.specs.EnvironmentClass.{named, is_sent, first_messages, unless_none, message_of, method_of, environment_class}
-use Rattle.pz_env_sound.proofs.WaysUp.{none_in, in_cases}
+use Rattle.pz_env_grown.proofs.Elements.{none_in, in_cases}
 use Rattle.pz_env_sound.proofs.RepeatsInParts.{none_repeats, one_repeats}
 use Rattle.pz_env_sound.proofs.RepeatedNames.{IsApart}
 use Rattle.pz_env_sound.proofs.Distinct.{AreApart, no_repeat, apart_by}

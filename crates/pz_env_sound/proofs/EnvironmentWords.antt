@@ -27,7 +27,7 @@ use Rattle.pz_env_rules.specs.Environment.{Line}
 use Rattle.pz_env_rules.specs.Ends.{first_mentions, named_at}
 use Rattle.pz_env_tree.specs.Names.{class_name, method_name, variable_name, kind_name, port_of}
 use Rattle.pz_env_tree.specs.EnvironmentClass.{named, is_sent, first_messages, message_of, environment_class}
-use Rattle.pz_env_sound.proofs.WaysUp.{none_in, in_cases}
+use Rattle.pz_env_grown.proofs.Elements.{none_in, in_cases}
 use Rattle.pz_env_sound.proofs.Grown.{grown}
 use Rattle.pz_env_sound.proofs.Members.{variables_new, ports_new, messages_new, start_new, method_new}
 use Rattle.pz_env_sound.proofs.NewParts.{IsFresh}

@@ -2,14 +2,16 @@
 -- which number and which name is whose.
 use Rattle.std.proofs.Common.{◌≡◌, ◌≢◌, refl, sym, ap, ◌∙◌, ℕ, zero, suc, ◌+◌, Bool, true, false, List, [], ◌∷◌, ◌++◌, map, length, Option, Some, None, slice_get, arith}
 use Rattle.std.specs.Option.{option_map, option_map_or, option_and_then}
-use Rattle.std.specs.Str.{bytes_eq}
 use Rattle.std.proofs.lemmas.Bool.{false≢true}
 use Rattle.std.proofs.lemmas.Slice.Eq.{bytes_eq-Decides}
 use Rattle.pz_syntax.specs.declared.clusters.SystemDecl.{SystemDecl}
 use Rattle.pz_syntax.specs.Classes.{DeclTree, ProcessClassTree, data_class, process_class, cluster_class, system, ModelTree}
-use Rattle.pz_classes.specs.Numbers.{is_named, declaration, first_named, class}
+use Rattle.pz_classes.specs.Numbers.{declaration, class}
 use Rattle.pz_classes.specs.Kinds.{is_data, is_process, is_cluster, is_declared_as}
-use Rattle.pz_env_sound.proofs.Numbers.{none_some, some_same, declared_within}
+use Rattle.pz_env_grown.specs.Growth.{Alike}
+use Rattle.pz_env_grown.proofs.Numbers.{none_some, some_same, declared_within}
+use Rattle.pz_env_grown.proofs.Alike.{of_alike}
+use Rattle.pz_env_grown.proofs.Behind.{keeps_named, behind_named, behind_there, changed, long}
 
 abbrev pub grown_decl : (SystemDecl → SystemDecl) → DeclTree → DeclTree
 grown_decl f (data_class c) = data_class c
@@ -20,25 +22,18 @@ grown_decl f (system s) = system (f s)
 abbrev pub grown : ModelTree → (SystemDecl → SystemDecl) → ProcessClassTree → ModelTree
 grown m f e = record { decls = map (grown_decl f) m.decls ++ process_class e ∷ [] }
 
+pub like_grown : (f : SystemDecl → SystemDecl) (d : DeclTree) → Alike d (grown_decl f d)
+like_grown f (data_class c) = Alike.same (data_class c)
+like_grown f (process_class c) = Alike.same (process_class c)
+like_grown f (cluster_class c) = Alike.same (cluster_class c)
+like_grown f (system s) = Alike.systems s (f s)
+
+-- what is the same of every system is the same of a declaration that has grown
+pub of_grown : {A : Type 0} (own : DeclTree → A) → ((s t : SystemDecl) → own (system s) ≡ own (system t)) → (f : SystemDecl → SystemDecl)
+    (d : DeclTree) → own (grown_decl f d) ≡ own d
+of_grown own still f d = sym (of_alike own still d (grown_decl f d) (like_grown f d))
+
 module _ (f : SystemDecl → SystemDecl) (e : ProcessClassTree) where
-  named_same : (name : List ℕ) (d : DeclTree) → is_named name (grown_decl f d) ≡ is_named name d
-  named_same name (data_class c) = refl
-  named_same name (process_class c) = refl
-  named_same name (cluster_class c) = refl
-  named_same name (system s) = refl
-
-  -- Numbers
-
-  at_old : (ds : List DeclTree) (i : ℕ) (d : DeclTree) → slice_get ds i ≡ Some d
-      → slice_get (map (grown_decl f) ds ++ process_class e ∷ []) i ≡ Some (grown_decl f d)
-  at_old [] i d is = absurd (none_some d is)
-  at_old (x ∷ ds) zero d is = ap (λ (y : DeclTree). Some (grown_decl f y)) (some_same x d is)
-  at_old (x ∷ ds) (suc i) d is = at_old ds i d is
-
-  at_end : (ds : List DeclTree) → slice_get (map (grown_decl f) ds ++ process_class e ∷ []) (length ds) ≡ Some (process_class e)
-  at_end [] = refl
-  at_end (x ∷ ds) = at_end ds
-
   -- what stands at a number: what stood there, or the new class
   pub data Stands (ds : List DeclTree) (i : ℕ) (d : DeclTree) : Type 0 where
     old : (was : DeclTree) → slice_get ds i ≡ Some was → d ≡ grown_decl f was → Stands ds i d
@@ -62,46 +57,15 @@ module _ (f : SystemDecl → SystemDecl) (e : ProcessClassTree) where
   at_other (x ∷ ds) zero other = refl
   at_other (x ∷ ds) (suc i) other = at_other ds i (λ is. other (ap (λ (k : ℕ). suc k) is))
 
-  counted : (ds : List DeclTree) → length (map (grown_decl f) ds ++ process_class e ∷ []) ≡ suc (length ds)
-  counted [] = refl
-  counted (x ∷ ds) = ap (λ (k : ℕ). suc k) (counted ds)
-
-  -- Names
-
-  found_first : (ds : List DeclTree) (n k : ℕ) (name : List ℕ) → first_named ds n name ≡ Some k
-      → first_named (map (grown_decl f) ds ++ process_class e ∷ []) n name ≡ Some k
-  found_first [] n k name is = absurd (none_some k is)
-  found_first (d ∷ ds) n k name is = by (is_named name d) refl (found_first ds (suc n) k name)
-    where
-      by : (b : Bool) → is_named name d ≡ b
-          → (first_named ds (suc n) name ≡ Some k → first_named (map (grown_decl f) ds ++ process_class e ∷ []) (suc n) name ≡ Some k)
-          → first_named (map (grown_decl f) (d ∷ ds) ++ process_class e ∷ []) n name ≡ Some k
-      by true has rest = rw (named_same name d, has) (rw has at is)
-      by false has rest = rw (named_same name d, has) (rest (rw has at is))
-
-  found_behind : (ds : List DeclTree) (n : ℕ) (name : List ℕ) → first_named ds n name ≡ None → bytes_eq name e.name.name ≡ true
-      → first_named (map (grown_decl f) ds ++ process_class e ∷ []) n name ≡ Some (n + length ds)
-  found_behind [] n name is same = let here : n ≡ n + 0 = omega arith in rw same (ap (λ (k : ℕ). Some k) here)
-  found_behind (d ∷ ds) n name is same = by (is_named name d) refl (found_behind ds (suc n) name)
-    where
-      by : (b : Bool) → is_named name d ≡ b
-          → (first_named ds (suc n) name ≡ None → bytes_eq name e.name.name ≡ true → first_named (map (grown_decl f) ds ++ process_class e ∷ []) (suc n) name ≡ Some (suc n + length ds))
-          → first_named (map (grown_decl f) (d ∷ ds) ++ process_class e ∷ []) n name ≡ Some (n + suc (length ds))
-      by true has rest = absurd (none_some n (sym (rw has at is)))
-      by false has rest =
-          let later : suc n + length ds ≡ n + suc (length ds) = omega arith in
-          rw (named_same name d, has) (rest (rw has at is) same ∙ ap (λ (k : ℕ). Some k) later)
-
   module _ (m : ModelTree) where
     pub decls_counted : length (grown m f e).decls ≡ suc (length m.decls)
-    decls_counted = counted m.decls
+    decls_counted = let all = long (grown_decl f) m.decls (process_class e ∷ []) in omega (arith, all)
 
     pub declaration_old : (c : ℕ) (d : DeclTree) → declaration m c ≡ Some d → declaration (grown m f e) c ≡ Some (grown_decl f d)
-    declaration_old zero d is = absurd (none_some d is)
-    declaration_old (suc i) d is = at_old m.decls i d is
+    declaration_old = changed (grown_decl f) m (grown m f e) (process_class e ∷ []) refl
 
     pub declaration_new : declaration (grown m f e) (suc (length m.decls)) ≡ Some (process_class e)
-    declaration_new = at_end m.decls
+    declaration_new = behind_there (grown_decl f) m.decls (process_class e)
 
     pub data IsDeclared (c : ℕ) (d : DeclTree) : Type 0 where
       old : (was : DeclTree) → declaration m c ≡ Some was → d ≡ grown_decl f was → IsDeclared c d
@@ -123,12 +87,12 @@ module _ (f : SystemDecl → SystemDecl) (e : ProcessClassTree) where
     declared_other c d is same = let low = declared_within m c d is in omega (arith, low, same)
 
     pub class_kept : (name : List ℕ) (k : ℕ) → class m name ≡ Some k → class (grown m f e) name ≡ Some k
-    class_kept name k is = found_first m.decls 1 k name is
+    class_kept = keeps_named (grown_decl f) (like_grown f) m.decls (process_class e ∷ []) 1
 
     pub class_new : class m e.name.name ≡ None → class (grown m f e) e.name.name ≡ Some (suc (length m.decls))
     class_new none =
         let number : 1 + length m.decls ≡ suc (length m.decls) = omega arith in
-        found_behind m.decls 1 e.name.name none ((bytes_eq-Decides e.name.name e.name.name).1 refl) ∙ ap (λ (k : ℕ). Some k) number
+        behind_named (grown_decl f) (like_grown f) (process_class e) e.name.name ((bytes_eq-Decides e.name.name e.name.name).1 refl) m.decls 1 none ∙ ap (λ (k : ℕ). Some k) number
 
     -- A name that stands for a class of some sort stands for it still.
     pub sort_kept : (sort : DeclTree → Bool) → ((d : DeclTree) → sort (grown_decl f d) ≡ sort d) → (name : List ℕ)
@@ -146,19 +110,10 @@ module _ (f : SystemDecl → SystemDecl) (e : ProcessClassTree) where
         by_class (Some k) named has = by_decl k named (declaration m k) refl has
 
 pub data_same : (f : SystemDecl → SystemDecl) (d : DeclTree) → is_data (grown_decl f d) ≡ is_data d
-data_same f (data_class c) = refl
-data_same f (process_class c) = refl
-data_same f (cluster_class c) = refl
-data_same f (system s) = refl
+data_same = of_grown is_data (λ s t. refl)
 
 pub process_same : (f : SystemDecl → SystemDecl) (d : DeclTree) → is_process (grown_decl f d) ≡ is_process d
-process_same f (data_class c) = refl
-process_same f (process_class c) = refl
-process_same f (cluster_class c) = refl
-process_same f (system s) = refl
+process_same = of_grown is_process (λ s t. refl)
 
 pub cluster_same : (f : SystemDecl → SystemDecl) (d : DeclTree) → is_cluster (grown_decl f d) ≡ is_cluster d
-cluster_same f (data_class c) = refl
-cluster_same f (process_class c) = refl
-cluster_same f (cluster_class c) = refl
-cluster_same f (system s) = refl
+cluster_same = of_grown is_cluster (λ s t. refl)

@@ -1,5 +1,5 @@
 -- The instances of a grown model: those that were there, and one of the new class. C14 and C15.
-use Rattle.std.proofs.Common.{◌≡◌, ◌≢◌, refl, sym, ap, ap₂, subst, ◌∙◌, ℕ, suc, ◌<◌, Bool, true, false, List, [], ◌∷◌, map, length, Option, Some, None, IsTrue, if◌then◌else◌, arith, ◌⊎◌, inl, inr, ⊎_elim}
+use Rattle.std.proofs.Common.{◌≡◌, ◌≢◌, sym, ap, ap₂, subst, ◌∙◌, ℕ, suc, ◌<◌, true, false, List, [], ◌∷◌, map, length, Option, Some, IsTrue, arith, ◌⊎◌, inl, inr, ⊎_elim}
 use Rattle.std.specs.List.{Contains}
 use Rattle.std.specs.Option.{unwrap_or}
 use Rattle.std.proofs.lemmas.Bool.{both_ways, false≢true}
@@ -21,29 +21,14 @@ use Rattle.pz_classes.specs.Instances.{instances, instance_class, parameters}
 use Rattle.pz_classes.specs.InstanceRules.{given_names, gives_each, BreaksC14, ill_given, Holds, directly, through, BreaksC15, holds_itself}
 use Rattle.pz_classes.specs.SoundSystem.{SoundSystemsFit, InstanceFits}
 use Rattle.pz_classes.specs.Soundness.{IsSound, given, holding}
-use Rattle.pz_env_sound.proofs.Numbers.{none_some, some_same, class_within}
-use Rattle.pz_env_sound.proofs.WaysUp.{none_in, in_cases}
+use Rattle.pz_env_grown.proofs.Elements.{none_in, in_cases}
+use Rattle.pz_env_grown.proofs.Numbers.{some_same, class_within}
+use Rattle.pz_env_grown.proofs.Paths.{class_named}
 use Rattle.pz_env_sound.proofs.Grown.{grown_decl, grown, IsDeclared, old, new, declared, declared_other, class_kept, class_new, cluster_same}
 use Rattle.pz_env_sound.proofs.Members.{parameters_same, parameters_new}
 use Rattle.pz_env_sound.proofs.NewParts.{IsFresh, Gains}
 use Rattle.pz_env_sound.proofs.KeptWords.{instances_kept}
 use Rattle.pz_env_sound.proofs.Words.{new_has_instances}
-
--- the class of an instance is one of the model
-pub class_named : (m : ModelTree) (name : List ℕ) (k : ℕ) → instance_class m name ≡ Some k
-    → (is_unsupported name ≡ false) × (has_instances m name ≡ true) × (class m name ≡ Some k)
-class_named m name k is = by_unsupported (is_unsupported name) refl is
-  where
-    by_instances : is_unsupported name ≡ false → (b : Bool) → has_instances m name ≡ b → (if b then class m name else None) ≡ Some k
-        → (is_unsupported name ≡ false) × (has_instances m name ≡ true) × (class m name ≡ Some k)
-    by_instances known true may has = (known, may, has)
-    by_instances known false may has = absurd (none_some k has)
-
-    by_unsupported : (b : Bool) → is_unsupported name ≡ b
-        → (if b then None else if has_instances m name then class m name else None) ≡ Some k
-        → (is_unsupported name ≡ false) × (has_instances m name ≡ true) × (class m name ≡ Some k)
-    by_unsupported true known has = absurd (none_some k has)
-    by_unsupported false known has = by_instances known (has_instances m name) refl has
 
 pub instance_named_class : (m : ModelTree) (name : List ℕ) (k : ℕ) → is_unsupported name ≡ false → has_instances m name ≡ true
     → class m name ≡ Some k → instance_class m name ≡ Some k

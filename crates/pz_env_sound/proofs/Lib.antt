@@ -1,7 +1,5 @@
 mod Tests
-mod Numbers
 mod Grown
-mod WaysUp
 mod Ancestors
 mod Members
 mod NewParts

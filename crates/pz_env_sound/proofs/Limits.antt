@@ -7,7 +7,7 @@ use Rattle.pz_env_script.specs.declared.entry.Entry.{Entry}
 use Rattle.pz_env_script.specs.declared.entry.Transfer.{Transfer}
 use Rattle.pz_env_script.specs.Entries.{IsTransfer, sends, receives, count_in}
 use Rattle.pz_env_script.specs.Scripts.{AreEntries, IsWritten}
-use Rattle.pz_env_sound.proofs.WaysUp.{none_in, in_cases}
+use Rattle.pz_env_grown.proofs.Elements.{none_in, in_cases}
 
 few_values : (action : List ℕ) (rest : List (List ℕ)) (t : Transfer) → IsTransfer action rest t → count_in t ≤ 100
 few_values _ _ _ (sends words values are few) = few

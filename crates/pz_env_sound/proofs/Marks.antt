@@ -24,7 +24,7 @@ use Rattle.pz_env_rules.specs.Environment.{Line, at_line}
 use Rattle.pz_env_rules.specs.Ends.{first_mentions, named_at}
 use Rattle.pz_env_tree.specs.Names.{port_of, variable_name, kind_name}
 use Rattle.pz_env_tree.specs.EnvironmentClass.{unless_none, message_of, literals, arguments, exchange, statements, environment_class, first_messages}
-use Rattle.pz_env_sound.proofs.WaysUp.{first_in, later_in}
+use Rattle.pz_env_grown.proofs.Elements.{first_in, later_in}
 use Rattle.pz_env_sound.proofs.Ports.{few_mentions, few_messages, message_in}
 use Rattle.pz_env_sound.proofs.NewEnds.{from_map}
 

@@ -7,7 +7,7 @@ use Rattle.std.proofs.lemmas.List.Sums.{sum_by-cons}
 use Rattle.pz_syntax.specs.declared.names.Id.{Id}
 use Rattle.pz_syntax.specs.declared.classes.Message.{Message}
 use Rattle.pz_syntax.specs.declared.clusters.SystemDecl.{SystemDecl}
-use Rattle.pz_syntax.specs.Classes.{DeclTree, ProcessClassTree, data_class, process_class, cluster_class, system, ModelTree}
+use Rattle.pz_syntax.specs.Classes.{DeclTree, ProcessClassTree, process_class, ModelTree}
 use Rattle.pz_classes.specs.Numbers.{declaration}
 use Rattle.pz_classes.specs.Ancestors.{ancestors}
 use Rattle.pz_classes.specs.Reached.{AncestorsAreReached}
@@ -17,54 +17,33 @@ use Rattle.pz_classes.specs.Starts.{own_start}
 use Rattle.pz_classes.specs.CallRules.{own_messages, messages, start}
 use Rattle.pz_classes.specs.Instances.{own_parameters, parameters}
 use Rattle.pz_classes.specs.Soundness.{IsSound}
-use Rattle.pz_env_sound.proofs.Numbers.{declared_within}
-use Rattle.pz_env_sound.proofs.Grown.{grown_decl, grown, declaration_new, declaration_other}
+use Rattle.pz_env_grown.proofs.Numbers.{declared_within}
+use Rattle.pz_env_sound.proofs.Grown.{grown_decl, of_grown, grown, declaration_new, declaration_other}
 use Rattle.pz_env_sound.proofs.Ancestors.{ancestors_same, ancestors_other, ancestors_new}
 
 -- A declaration has the same of its own
 
 module _ (f : SystemDecl → SystemDecl) where
   fields_kept : (d : DeclTree) → own_fields (grown_decl f d) ≡ own_fields d
-  fields_kept (data_class c) = refl
-  fields_kept (process_class c) = refl
-  fields_kept (cluster_class c) = refl
-  fields_kept (system s) = refl
+  fields_kept = of_grown own_fields (λ s t. refl) f
 
   variables_kept : (d : DeclTree) → own_variables (grown_decl f d) ≡ own_variables d
-  variables_kept (data_class c) = refl
-  variables_kept (process_class c) = refl
-  variables_kept (cluster_class c) = refl
-  variables_kept (system s) = refl
+  variables_kept = of_grown own_variables (λ s t. refl) f
 
   ports_kept : (d : DeclTree) → own_ports (grown_decl f d) ≡ own_ports d
-  ports_kept (data_class c) = refl
-  ports_kept (process_class c) = refl
-  ports_kept (cluster_class c) = refl
-  ports_kept (system s) = refl
+  ports_kept = of_grown own_ports (λ s t. refl) f
 
   parameters_kept : (d : DeclTree) → own_parameters (grown_decl f d) ≡ own_parameters d
-  parameters_kept (data_class c) = refl
-  parameters_kept (process_class c) = refl
-  parameters_kept (cluster_class c) = refl
-  parameters_kept (system s) = refl
+  parameters_kept = of_grown own_parameters (λ s t. refl) f
 
   pub messages_kept : (d : DeclTree) → own_messages (grown_decl f d) ≡ own_messages d
-  messages_kept (data_class c) = refl
-  messages_kept (process_class c) = refl
-  messages_kept (cluster_class c) = refl
-  messages_kept (system s) = refl
+  messages_kept = of_grown own_messages (λ s t. refl) f
 
   start_kept : (d : DeclTree) → own_start (grown_decl f d) ≡ own_start d
-  start_kept (data_class c) = refl
-  start_kept (process_class c) = refl
-  start_kept (cluster_class c) = refl
-  start_kept (system s) = refl
+  start_kept = of_grown own_start (λ s t. refl) f
 
   pub signatures_kept : (d : DeclTree) → signatures (grown_decl f d) ≡ signatures d
-  signatures_kept (data_class c) = refl
-  signatures_kept (process_class c) = refl
-  signatures_kept (cluster_class c) = refl
-  signatures_kept (system s) = refl
+  signatures_kept = of_grown signatures (λ s t. refl) f
 
   before_kept : (ds : List DeclTree) (k : ℕ)
       → sum_by (λ d. length (signatures d)) (take k (map (grown_decl f) ds)) ≡ sum_by (λ d. length (signatures d)) (take k ds)

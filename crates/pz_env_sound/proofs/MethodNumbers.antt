@@ -11,7 +11,7 @@ use Rattle.pz_classes.specs.Numbers.{declaration}
 use Rattle.pz_classes.specs.Ancestors.{ancestors}
 use Rattle.pz_classes.specs.Methods.{Signature, same_signature, data_signature, process_signature, signatures, methods_before, first_with, method_id, own_method, nearest, method_with}
 use Rattle.pz_classes_openings.specs.Methods.{declared_methods, methods}
-use Rattle.pz_env_sound.proofs.Numbers.{none_some, some_same}
+use Rattle.pz_env_grown.proofs.Numbers.{none_some, some_same}
 use Rattle.pz_env_sound.proofs.Grown.{grown_decl}
 
 abbrev pub many : DeclTree → ℕ

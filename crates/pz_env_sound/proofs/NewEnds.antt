@@ -13,8 +13,8 @@ use Rattle.pz_env_rules.specs.Ends.{first_mentions, named_at}
 use Rattle.pz_env_tree.specs.Names.{instance_name, port_of}
 use Rattle.pz_env_tree.specs.ClosedTree.{channel_of}
 use Rattle.pz_classes.specs.ChannelRules.{same_end}
-use Rattle.pz_env_sound.proofs.Numbers.{none_some, some_same}
-use Rattle.pz_env_sound.proofs.WaysUp.{none_in, first_in, later_in, in_cases}
+use Rattle.pz_env_grown.proofs.Elements.{none_in, first_in, later_in, in_cases}
+use Rattle.pz_env_grown.proofs.Numbers.{none_some, some_same}
 use Rattle.pz_env_sound.proofs.Distinct.{AreApart, NotLater}
 use Rattle.pz_env_sound.proofs.Channels.{ends_of}
 use Rattle.pz_env_sound.proofs.Ports.{EndKey, end_key, same_bytes, port_tells}

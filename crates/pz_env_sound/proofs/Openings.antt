@@ -18,7 +18,7 @@ use Rattle.pz_classes_beginnings.specs.Beginning.{begun_all, all_plain_calls, st
 use Rattle.pz_classes_openings.specs.Methods.{declared_methods, methods, method_at}
 use Rattle.pz_classes_openings.specs.Openings.{begun_at, calls_at, statements_at, HasMethod, called, Leads, itself, further, of_called, opened_to, spread_to}
 use Rattle.pz_classes_openings.specs.OpeningRules.{BreaksC23, round, BreaksC24, too_large, Opens}
-use Rattle.pz_env_sound.proofs.WaysUp.{none_in}
+use Rattle.pz_env_grown.proofs.Elements.{none_in}
 use Rattle.pz_env_sound.proofs.Grown.{grown_decl, grown, IsDeclared, old, new, declared, declared_other, process_same}
 use Rattle.pz_env_sound.proofs.Members.{method_same, method_new}
 use Rattle.pz_env_sound.proofs.NewParts.{IsFresh}

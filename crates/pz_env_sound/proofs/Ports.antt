@@ -11,8 +11,8 @@ use Rattle.pz_env_rules.specs.Environment.{Line}
 use Rattle.pz_env_rules.specs.Ends.{is_same_end, first_mentions}
 use Rattle.pz_env_tree.specs.Names.{end_number, port_name, port_of}
 use Rattle.pz_env_tree.specs.EnvironmentClass.{is_sent, is_same_way, is_same_message, first_messages}
-use Rattle.pz_env_sound.proofs.Numbers.{some_same}
-use Rattle.pz_env_sound.proofs.WaysUp.{none_in, in_cases}
+use Rattle.pz_env_grown.proofs.Elements.{none_in, in_cases}
+use Rattle.pz_env_grown.proofs.Numbers.{some_same}
 use Rattle.pz_env_sound.proofs.Distinct.{AreApart, firsts, firsts_apart, has_first, few_firsts, from_all}
 
 -- the end of a line

@@ -19,7 +19,7 @@ use Rattle.pz_classes.specs.Instances.{instances}
 use Rattle.pz_classes.specs.CallRules.{own_messages}
 use Rattle.pz_classes.specs.RepeatRules.{Repeats, same_name, RepeatsName, Heading, headings, same_heading, same_message, BreaksC4, again_field, again_variable, again_port, again_local, again_instance, again_method, again_message}
 use Rattle.pz_classes.specs.Soundness.{IsSound, a_repeat}
-use Rattle.pz_env_sound.proofs.WaysUp.{none_in, in_cases}
+use Rattle.pz_env_grown.proofs.Elements.{none_in, in_cases}
 use Rattle.pz_env_sound.proofs.Grown.{grown_decl, grown, IsDeclared, old, new, declared}
 use Rattle.pz_env_sound.proofs.Members.{messages_kept, fields_same, variables_same, ports_same, fields_new, variables_new, ports_new}
 use Rattle.pz_env_sound.proofs.NewParts.{IsFresh, Gains}

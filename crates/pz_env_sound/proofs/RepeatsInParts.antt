@@ -4,8 +4,8 @@ use Rattle.std.specs.List.{Contains}
 use Rattle.std.proofs.lemmas.Option.{slice_get_within}
 use Rattle.pz_syntax.specs.declared.tokens.Pos.{Pos}
 use Rattle.pz_classes.specs.RepeatRules.{Repeats}
-use Rattle.pz_env_sound.proofs.Numbers.{none_some, some_same}
-use Rattle.pz_env_sound.proofs.WaysUp.{later_in}
+use Rattle.pz_env_grown.proofs.Elements.{later_in}
+use Rattle.pz_env_grown.proofs.Numbers.{none_some, some_same}
 
 module _ {A : Type 0} where
   -- an element at its place is an element

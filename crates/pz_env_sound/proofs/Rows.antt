@@ -38,9 +38,9 @@ use Rattle.pz_env_script.specs.Entries.{sends}
 use Rattle.pz_env_script.specs.Scripts.{IsWritten}
 use Rattle.pz_env_rules.proofs.WorkedSystem.{at, id, class_R, system_of, instance_r, model, script}
 use Rattle.pz_env_tree.proofs.Refusing.{refused_found}
+use Rattle.pz_env_grown.proofs.Elements.{none_in, in_cases}
+use Rattle.pz_env_grown.proofs.Numbers.{none_some, some_same}
 use Rattle.pz_env_sound.specs.MayClose.{MayClose}
-use Rattle.pz_env_sound.proofs.Numbers.{none_some, some_same}
-use Rattle.pz_env_sound.proofs.WaysUp.{none_in, in_cases}
 use Rattle.pz_env_sound.proofs.RepeatsInParts.{none_repeats, one_repeats}
 use Rattle.pz_env_sound.proofs.KeptWords.{broken, NoneHolds}
 use Rattle.pz_env_sound.proofs.Words.{no_broken_word}

@@ -16,13 +16,14 @@ use Rattle.pz_classes.specs.RepeatRules.{Repeats}
 use Rattle.pz_classes.specs.SizeRules.{system_of, systems, Totals, nothing, plus, all_of, one_of, expanded, system_size, is_too_large, BreaksC19, too_large, BreaksC20, again_system, no_system}
 use Rattle.pz_classes.specs.SoundSystem.{SoundSystemsFit, SystemFits}
 use Rattle.pz_classes.specs.Soundness.{IsSound}
-use Rattle.pz_env_sound.proofs.WaysUp.{none_in, first_in, in_cases}
+use Rattle.pz_env_grown.proofs.Elements.{none_in, first_in, in_cases}
+use Rattle.pz_env_grown.proofs.Paths.{IsPart, part_of}
 use Rattle.pz_env_sound.proofs.Grown.{grown_decl, grown, decls_counted, declaration_old, declaration_new}
 use Rattle.pz_env_sound.proofs.NewParts.{IsFresh, Gains}
 use Rattle.pz_env_sound.proofs.RepeatsInParts.{one_repeats}
 use Rattle.pz_env_sound.proofs.Instances.{has_class, class_of_new}
 use Rattle.pz_env_sound.proofs.Channels.{Joins}
-use Rattle.pz_env_sound.proofs.Depth.{all_alike, IsPart, part_of, deep_enough}
+use Rattle.pz_env_sound.proofs.Depth.{all_alike, deep_enough}
 
 -- a system among declarations
 declared_in : (ds : List DeclTree) (s : SystemDecl) → Contains (flat_map system_of ds) s → (k : ℕ) × (slice_get ds k ≡ Some (system s))

@@ -19,8 +19,8 @@ use Rattle.pz_env_tree.specs.Names.{class_name, instance_name}
 use Rattle.pz_env_tree.specs.Refusals.{IsFirstRefused, full_processes, most_channels}
 use Rattle.pz_env_tree.specs.Laws.{RefusalsAreComputed}
 use Rattle.pz_env_tree.specs.devices.Refused.{is_named_so, is_crowded, is_wide, is_full, is_port, is_taken, is_bad, first_bad, refused}
-use Rattle.pz_env_sound.proofs.Numbers.{none_some, some_same}
-use Rattle.pz_env_sound.proofs.WaysUp.{none_in, first_in, later_in, in_cases}
+use Rattle.pz_env_grown.proofs.Elements.{none_in, first_in, later_in, in_cases}
+use Rattle.pz_env_grown.proofs.Numbers.{none_some, some_same}
 
 -- Tests
 

@@ -1,23 +1,11 @@
 -- Ways up from a class: one that goes a step further than there is need comes round.
-use Rattle.std.proofs.Common.{◌≡◌, refl, sym, ap, subst, ◌∙◌, ℕ, zero, suc, List, [], ◌∷◌, ◌++◌, Option, Some, None, arith, ◌⊎◌, inl, inr}
+use Rattle.std.proofs.Common.{◌≡◌, refl, sym, ap, subst, ◌∙◌, ℕ, zero, suc, List, [], ◌∷◌, ◌++◌, Option, Some, None, arith, ◌⊎◌, inl, inr, ◌≤◌}
 use Rattle.std.specs.List.{Contains}
 use Rattle.std.specs.Option.{option_map_or}
 use Rattle.std.proofs.lemmas.List.Elements.{Contains-append_right}
 use Rattle.pz_classes_lineage.specs.Reached.{Reaches, itself, further}
 use Rattle.pz_classes.specs.Ancestors.{followed}
-
-pub none_in : {A : Type 0} (y : A) → Contains [] y → ⊥
-none_in y here = omega (arith, here.1)
-
-pub first_in : {A : Type 0} (x : A) (xs : List A) → Contains (x ∷ xs) x
-first_in x xs = (0, omega arith, refl)
-
-pub later_in : {A : Type 0} (x : A) (xs : List A) (y : A) → Contains xs y → Contains (x ∷ xs) y
-later_in x xs y (k, below, is) = (suc k, omega arith, is)
-
-pub in_cases : {A : Type 0} (x : A) (xs : List A) (y : A) → Contains (x ∷ xs) y → (x ≡ y) ⊎ Contains xs y
-in_cases x xs y (zero, below, is) = inl is
-in_cases x xs y (suc k, below, is) = inr (k, omega arith, is)
+use Rattle.pz_env_grown.proofs.Elements.{none_in, first_in, in_cases}
 
 module _ (up : ℕ → Option ℕ) where
   -- what is followed is reached
@@ -63,9 +51,6 @@ module _ (up : ℕ → Option ℕ) where
     pub is_above : up c ≡ Some above
     pub back : Reaches up above c
 
-  no_two : (c k : ℕ) (l : List ℕ) → c ∷ [] ≡ (c ∷ l) ++ k ∷ [] → (l ≡ []) → ⊥
-  no_two c k l is none = let wrong : c ∷ [] ≡ c ∷ k ∷ [] = rw none at is in cc
-
   -- each class on the way has a parent, from which one comes to the last
   leads_on : (n c y k : ℕ) → Contains (followed up n c) y → followed up (suc n) c ≡ followed up n c ++ k ∷ []
       → (p : ℕ) × (up y ≡ Some p) × Reaches up p k
@@ -96,3 +81,29 @@ module _ (up : ℕ → Option ℕ) where
   pub last_reached : (n c : ℕ) (more : More n c) → Reaches up c more.last
   last_reached n c more =
       is_reached (suc n) c more.last (subst (λ (l : List ℕ). Contains l more.last) (sym more.is) (Contains-append_right (followed up n c) (more.last ∷ []) more.last (first_in more.last [])))
+
+  -- what one step more does not change no further step does
+  pub stays : (n k c : ℕ) → n ≤ k → followed up (suc n) c ≡ followed up n c → followed up k c ≡ followed up n c
+  stays zero k c low is = cc
+  stays (suc n) zero c low is = absurd (omega (arith, low))
+  stays (suc n) (suc k) c low is = by_parent (up c) is (stays n k)
+    where
+      by_parent : (o : Option ℕ) → c ∷ option_map_or (followed up (suc n)) o [] ≡ c ∷ option_map_or (followed up n) o []
+          → ((p : ℕ) → n ≤ k → followed up (suc n) p ≡ followed up n p → followed up k p ≡ followed up n p)
+          → c ∷ option_map_or (followed up k) o [] ≡ c ∷ option_map_or (followed up n) o []
+      by_parent None same rest = refl
+      by_parent (Some p) same rest =
+          let tail : followed up (suc n) p ≡ followed up n p = cc in ap (λ (l : List ℕ). c ∷ l) (rest p (omega (arith, low)) tail)
+
+-- Ways along two parents that are the same for all classes on the way
+pub followed_same : (up above : ℕ → Option ℕ) (IsKept : ℕ → Type 0) → ((c : ℕ) → IsKept c → above c ≡ up c)
+    → ((c p : ℕ) → up c ≡ Some p → IsKept p) → (n c : ℕ) → IsKept c → followed above n c ≡ followed up n c
+followed_same up above IsKept same parents zero c kept = refl
+followed_same up above IsKept same parents (suc n) c kept =
+    ap (λ (o : Option ℕ). c ∷ option_map_or (followed above n) o []) (same c kept)
+    ∙ by_parent (up c) refl (followed_same up above IsKept same parents n)
+  where
+    by_parent : (o : Option ℕ) → up c ≡ o → ((p : ℕ) → IsKept p → followed above n p ≡ followed up n p)
+        → c ∷ option_map_or (followed above n) o [] ≡ c ∷ option_map_or (followed up n) o []
+    by_parent None is rest = refl
+    by_parent (Some p) is rest = ap (λ (l : List ℕ). c ∷ l) (rest p (parents c p is))

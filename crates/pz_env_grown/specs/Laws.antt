@@ -1,0 +1,10 @@
+-- Laws of models that have grown.
+use Rattle.std.specs.Prelude.{◌≡◌, ℕ}
+use Rattle.pz_syntax.specs.Classes.{ModelTree}
+use Rattle.pz_classes.specs.Ancestors.{ancestors}
+use Rattle.pz_classes.specs.Soundness.{IsSound}
+use Rattle.pz_env_grown.specs.Growth.{Grown}
+
+-- Where the model is sound, each class has the ancestors that it had.
+abbrev pub GrownModelsKeepAncestors : Type 0
+GrownModelsKeepAncestors = (m n : ModelTree) → IsSound m → Grown m n → (c : ℕ) → ancestors m c ≡ ancestors n c

@@ -1,0 +1,4 @@
+//! Models that have grown out of others: definitions, with their laws.
+#![tactic(auto)]
+
+pub mod laws;
