@@ -1,6 +1,7 @@
 -- What a listener writes for one more event, and what it has heard then.
-use Rattle.std.proofs.Common.{◌≡◌, ◌≤◌, ◌<◌, ⊎_elim, ℕ, suc, List, [], ◌∷◌, ◌++◌, length, Option, Some, None, Result, Ok, Err, sym, subst, ap, ◌∙◌, arith}
+use Rattle.std.proofs.Common.{◌≡◌, ◌≤◌, ◌<◌, ⊎_elim, ℕ, suc, List, [], ◌∷◌, ◌++◌, length, Option, Some, None, Result, Ok, Err, Vec, sym, subst, ap, ◌∙◌, arith}
 use Rattle.std.specs.Prelude.{OnOk}
+use Rattle.std.specs.declared.alloc.Global.{Global}
 use Rattle.std.proofs.lemmas.List.{map-append, length-map}
 use Rattle.std.proofs.lemmas.Result.{on_ok_weaker}
 use Rattle.std.proofs.lemmas.Bool.{cases_lt}
@@ -85,31 +86,31 @@ module _ (m : ModelTree) (past : List Event) (e : Event) where
     silent_heard (with_watches ws) heard = absurd heard.hears
 
     -- a line is
-    pub line_wrote : (manner : Manner) → HasHeard m manner past clock Lines → (before now : SinkState) (halt : Option Halt) → Wrote before now (event_line m e) halt → Wrote before now (saying m manner past e) halt
-    line_wrote silently heard before now halt wrote = absurd heard.hears
-    line_wrote in_lines heard before now halt wrote = wrote
-    line_wrote (with_watches ws) heard before now halt wrote = absurd heard.hears
+    pub line_wrote : (manner : Manner) (text : Vec ℕ Global) → HasHeard m manner past clock (Lines text) → (before now : SinkState) (halt : Option Halt) → Wrote before now (event_line m e) halt → Wrote before now (saying m manner past e) halt
+    line_wrote silently text heard before now halt wrote = absurd heard.hears
+    line_wrote in_lines text heard before now halt wrote = wrote
+    line_wrote (with_watches ws) text heard before now halt wrote = absurd heard.hears
 
-    pub line_heard : (manner : Manner) → HasHeard m manner past clock Lines → HasHeard m manner (past ++ e ∷ []) clock Lines
-    line_heard silently heard = absurd heard.hears
-    line_heard in_lines heard = heard_more in_lines Lines tt heard.up_to
-    line_heard (with_watches ws) heard = absurd heard.hears
+    pub line_heard : (manner : Manner) (text later : Vec ℕ Global) → HasHeard m manner past clock (Lines text) → HasHeard m manner (past ++ e ∷ []) clock (Lines later)
+    line_heard silently text later heard = absurd heard.hears
+    line_heard in_lines text later heard = heard_more in_lines (Lines later) tt heard.up_to
+    line_heard (with_watches ws) text later heard = absurd heard.hears
 
     -- a line is, and it is judged
-    pub judged_wrote : (manner : Manner) (watching : Watching) → HasHeard m manner past clock (Watches watching) → (before now : SinkState) (halt : Option Halt)
+    pub judged_wrote : (manner : Manner) (watching : Watching) (text : Vec ℕ Global) → HasHeard m manner past clock (Watches watching text) → (before now : SinkState) (halt : Option Halt)
         → ((ws : List NamedFormula) → HasJudged ws (points_of m past) watching → AreUpTo (points_of m past) clock → Wrote before now (judged_line m ws past e) halt)
         → Wrote before now (saying m manner past e) halt
-    judged_wrote silently watching heard before now halt wrote = absurd heard.hears
-    judged_wrote in_lines watching heard before now halt wrote = absurd heard.hears
-    judged_wrote (with_watches ws) watching heard before now halt wrote = wrote ws heard.hears heard.up_to
+    judged_wrote silently watching text heard before now halt wrote = absurd heard.hears
+    judged_wrote in_lines watching text heard before now halt wrote = absurd heard.hears
+    judged_wrote (with_watches ws) watching text heard before now halt wrote = wrote ws heard.hears heard.up_to
 
-    pub judged_heard : {T E : Type 0} (manner : Manner) (watching later : Watching) (r : Result T E) → HasHeard m manner past clock (Watches watching)
+    pub judged_heard : {T E : Type 0} (manner : Manner) (watching later : Watching) (text after : Vec ℕ Global) (r : Result T E) → HasHeard m manner past clock (Watches watching text)
         → ((ws : List NamedFormula) → HasJudged ws (points_of m past) watching → AreUpTo (points_of m past) clock → OnOk r (HasJudged ws (points_of m (past ++ e ∷ [])) later))
-        → OnOk r (HasHeard m manner (past ++ e ∷ []) clock (Watches later))
-    judged_heard silently watching later r heard judged = absurd heard.hears
-    judged_heard in_lines watching later r heard judged = absurd heard.hears
-    judged_heard (with_watches ws) watching later r heard judged =
-        on_ok_weaker r (λ so. heard_more (with_watches ws) (Watches later) so heard.up_to) (judged ws heard.hears heard.up_to)
+        → OnOk r (HasHeard m manner (past ++ e ∷ []) clock (Watches later after))
+    judged_heard silently watching later text after r heard judged = absurd heard.hears
+    judged_heard in_lines watching later text after r heard judged = absurd heard.hears
+    judged_heard (with_watches ws) watching later text after r heard judged =
+        on_ok_weaker r (λ so. heard_more (with_watches ws) (Watches later after) so heard.up_to) (judged ws heard.hears heard.up_to)
 
   -- the point is the one that the watches were fed with
   module _ (x : Point) (is : x ≡ event_point m e) where
@@ -161,18 +162,18 @@ module _ (m : ModelTree) (manner : Manner) (past : List Event) (e : Event) (cloc
   pub silent_hears : listener ≡ Silent → HasHeard m manner (past ++ e ∷ []) clock listener
   silent_hears is = as_it_was Silent is (silent_heard m past e clock at manner (as_it_is Silent is))
 
-  pub line_says : listener ≡ Lines → (before now : SinkState) (halt : Option Halt) → Wrote before now (event_line m e) halt → Wrote before now (saying m manner past e) halt
-  line_says is = line_wrote m past e clock at manner (as_it_is Lines is)
+  pub line_says : (text : Vec ℕ Global) → listener ≡ Lines text → (before now : SinkState) (halt : Option Halt) → Wrote before now (event_line m e) halt → Wrote before now (saying m manner past e) halt
+  line_says text is = line_wrote m past e clock at manner text (as_it_is (Lines text) is)
 
-  pub line_hears : {T E : Type 0} (r : Result T E) → listener ≡ Lines → OnOk r (HasHeard m manner (past ++ e ∷ []) clock listener)
-  line_hears r is = always r (as_it_was Lines is (line_heard m past e clock at manner (as_it_is Lines is)))
+  pub line_hears : {T E : Type 0} (text later : Vec ℕ Global) (r : Result T E) → listener ≡ Lines text → OnOk r (HasHeard m manner (past ++ e ∷ []) clock (Lines later))
+  line_hears text later r is = always r (line_heard m past e clock at manner text later (as_it_is (Lines text) is))
 
-  pub judged_says : (watching : Watching) → listener ≡ Watches watching → (before now : SinkState) (halt : Option Halt)
+  pub judged_says : (watching : Watching) (text : Vec ℕ Global) → listener ≡ Watches watching text → (before now : SinkState) (halt : Option Halt)
       → ((ws : List NamedFormula) → HasJudged ws (points_of m past) watching → AreUpTo (points_of m past) clock → Wrote before now (judged_line m ws past e) halt)
       → Wrote before now (saying m manner past e) halt
-  judged_says watching is = judged_wrote m past e clock at manner watching (as_it_is (Watches watching) is)
+  judged_says watching text is = judged_wrote m past e clock at manner watching text (as_it_is (Watches watching text) is)
 
-  pub judged_hears : {T E : Type 0} (watching later : Watching) (r : Result T E) → listener ≡ Watches watching
+  pub judged_hears : {T E : Type 0} (watching later : Watching) (text after : Vec ℕ Global) (r : Result T E) → listener ≡ Watches watching text
       → ((ws : List NamedFormula) → HasJudged ws (points_of m past) watching → AreUpTo (points_of m past) clock → OnOk r (HasJudged ws (points_of m (past ++ e ∷ [])) later))
-      → OnOk r (HasHeard m manner (past ++ e ∷ []) clock (Watches later))
-  judged_hears watching later r is = judged_heard m past e clock at manner watching later r (as_it_is (Watches watching) is)
+      → OnOk r (HasHeard m manner (past ++ e ∷ []) clock (Watches later after))
+  judged_hears watching later text after r is = judged_heard m past e clock at manner watching later text after r (as_it_is (Watches watching text) is)

@@ -15,6 +15,10 @@ use Rattle.pz_term_simulator.specs.Simulations.{Simulation, IsMomentOf, AreOffer
 use Rattle.pz_run_playing.specs.Menus.{offer_line, offers_text}
 use Rattle.pz_run_playing.specs.devices.Known.{Known}
 
+-- what is put into an empty text is all of it
+pub put_alone : (before text now : List ℕ) → before ≡ [] → now ≡ before ++ text → now ≡ text
+put_alone before text now none is = is ∙ ap (λ (l : List ℕ). l ++ text) none
+
 -- the line of an action, where all of it is known
 pub same_line : (m l : ModelTree) (t u n k : ℕ) (a b : Action) → m ≡ l → t ≡ u → a ≡ b → action_line m t n k a ≡ action_line l u n k b
 same_line m l t u n k a b model clock action =

@@ -41,8 +41,10 @@ pub(crate) fn hear_passing<W: Sink>(
     rules_are_known();
     match listener {
         Listener::Silent => Ok(()),
-        Listener::Lines => tell_passing(alloc, clock, time, out),
-        Listener::Watches(watching) => judge_passing(alloc, clock, time, watching, out),
+        Listener::Lines { line } => tell_passing(clock, time, line, out),
+        Listener::Watches { watching, line } => {
+            judge_passing(alloc, clock, time, watching, line, out)
+        }
     }
 }
 
@@ -52,6 +54,7 @@ fn judge_passing<W: Sink>(
     clock: u128,
     time: u128,
     watching: &mut Watching,
+    line: &mut Vec<u8>,
     out: &mut W,
 ) -> Result<(), Halt>
     ensures wrote { (m : ModelTree) (ws : List NamedFormula) (past : List Event) →
@@ -63,7 +66,7 @@ fn judge_passing<W: Sink>(
         OnOk result (HasJudged ws (points_of m (past ++ passed clock time ∷ [])) watching.new) }
 {
     rules_are_known();
-    tell_passing(alloc, clock, time, out)?;
+    tell_passing(clock, time, line, out)?;
     watching.judge(alloc, &passing(clock), out)
 }
 
@@ -93,8 +96,10 @@ pub(crate) fn hear_action<S: Simulator, W: Sink>(
     rules_are_known();
     match listener {
         Listener::Silent => Ok(()),
-        Listener::Lines => tell_action(alloc, sim, offers, number, out),
-        Listener::Watches(watching) => judge_action(alloc, sim, offers, number, watching, out),
+        Listener::Lines { line } => tell_action(sim, offers, number, line, out),
+        Listener::Watches { watching, line } => {
+            judge_action(alloc, sim, offers, number, watching, line, out)
+        }
     }
 }
 
@@ -105,6 +110,7 @@ fn judge_action<S: Simulator, W: Sink>(
     offers: u64,
     number: u64,
     watching: &mut Watching,
+    line: &mut Vec<u8>,
     out: &mut W,
 ) -> Result<(), Halt>
     requires moment { IsMomentOf (S.simulation sim.now) (Moment.Actions offers) }
@@ -125,7 +131,7 @@ fn judge_action<S: Simulator, W: Sink>(
 {
     rules_are_known();
     let action = sim.offer(number)?;
-    judge_offered(alloc, sim, offers, number, &action, watching, out)
+    judge_offered(alloc, sim, offers, number, &action, watching, line, out)
 }
 
 // The same, of this action.
@@ -136,6 +142,7 @@ fn judge_offered<S: Simulator, W: Sink>(
     number: u64,
     action: &Action,
     watching: &mut Watching,
+    line: &mut Vec<u8>,
     out: &mut W,
 ) -> Result<(), Halt>
     requires moment { IsMomentOf (S.simulation sim.now) (Moment.Actions offers) }
@@ -155,6 +162,6 @@ fn judge_offered<S: Simulator, W: Sink>(
         watching.new) }
 {
     rules_are_known();
-    tell_offered(alloc, sim, offers, number, action, out)?;
+    tell_offered(sim, offers, number, action, line, out)?;
     watching.judge(alloc, &spot(sim.net(), sim.clock(), action), out)
 }

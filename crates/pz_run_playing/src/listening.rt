@@ -8,15 +8,16 @@ ghost use Rattle.pz_run_playing.specs.devices.Hearing.{Hears, with_watches};
 
 use pz_watch_judging::Watching;
 
-/// Who is told what happens in a run, while it goes on.
+/// Who is told what happens in a run, while it goes on. Each line is made in one text, which is kept for its
+/// room: what it holds between two lines means nothing.
 #[derive(Drop)]
 pub(crate) enum Listener {
     /// Nobody: nothing is written.
     Silent,
     /// Lines are written.
-    Lines,
+    Lines { line: Vec<u8> },
     /// Lines are written, and behind each those of the watches that are broken there.
-    Watches(Watching),
+    Watches { watching: Watching, line: Vec<u8> },
 }
 
 impl Listener {
@@ -27,8 +28,9 @@ impl Listener {
             (IsTrue result) ↔ AreBroken ws (points_of m past) }
     {
         match self {
-            Listener::Silent | Listener::Lines => false,
-            Listener::Watches(watching) => watching.is_broken(),
+            Listener::Silent => false,
+            Listener::Lines { line: _ } => false,
+            Listener::Watches { watching, line: _ } => watching.is_broken(),
         }
     }
 }

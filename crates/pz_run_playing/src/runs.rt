@@ -55,7 +55,9 @@ pub fn play_under<S: Simulator, L: Ledger, W: Sink>(
         (W.state out.old) (W.state out.new) result }
 {
     rules_are_known();
-    let mut listener = Listener::Lines;
+    let mut listener = Listener::Lines {
+        line: Vec::new(alloc),
+    };
     let played = play(
         alloc,
         sim,
@@ -192,7 +194,10 @@ pub fn play_watched<S: Simulator, L: Ledger, W: Sink>(
         (W.state out.old) (W.state out.new) result }
 {
     rules_are_known();
-    let mut listener = Listener::Watches(Watching::new(watches));
+    let mut listener = Listener::Watches {
+        watching: Watching::new(watches),
+        line: Vec::new(alloc),
+    };
     let header = header_line(alloc, sim);
     let played = play(
         alloc,

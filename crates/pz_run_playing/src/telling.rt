@@ -1,6 +1,6 @@
 // What is written of a run.
 
-ghost use Rattle.std.specs.Prelude.{◌≡◌, ◌<◌, ℕ, List, IfOk};
+ghost use Rattle.std.specs.Prelude.{◌≡◌, ◌<◌, ℕ, List, IfOk, OnOk};
 ghost use Rattle.std.specs.Result.{result_err};
 ghost use Rattle.pz_io.specs.Writing.{Wrote};
 ghost use Rattle.pz_rules.specs.declared.action.Action.{Action as TheAction};
@@ -24,7 +24,7 @@ use crate::lines::{last_line, offer_line, summary_line};
 use crate::playing::Played;
 use pz_io::{Halt, Sink, put};
 use pz_term_simulator::{Action, Moment, Simulator};
-use pz_trace::{action_line, form_of, header, time_line};
+use pz_trace::{form_of, header, put_action_line, put_time_line};
 use std::alloc::{AllocError, Global};
 
 /// The first line of the trace of a run that a simulator goes through. The only error is want of memory.
@@ -50,39 +50,42 @@ pub(crate) fn tell_header<W: Sink>(
     put(out, line.as_slice())
 }
 
-/// Writes the line of a passing of so much time from a clock on, in clock units.
+/// Writes the line of a passing of so much time from a clock on, in clock units. It is made in the given text,
+/// as are those of actions: what that held is gone, and its room is kept.
 pub(crate) fn tell_passing<W: Sink>(
-    alloc: Global,
     clock: u128,
     time: u128,
+    line: &mut Vec<u8>,
     out: &mut W,
 ) -> Result<(), Halt>
     ensures { Wrote (W.state out.old) (W.state out.new) (trace_lines.time_line clock time)
         (result_err result) }
 {
     rules_are_known();
-    let line = time_line(alloc, clock, time)?;
+    line.clear();
+    put_time_line(line, clock, time)?;
     put(out, line.as_slice())
 }
 
-// The line of the offer of this number, from 0, where it is taken. The only error is want of memory.
-fn line_of<S: Simulator>(
-    alloc: Global,
+// Makes the line of the offer of this number, from 0, where it is taken. The only error is want of memory.
+fn make_line<S: Simulator>(
     sim: &S,
     offers: u64,
     number: u64,
     action: &Action,
-) -> Result<Vec<u8>, AllocError>
+    line: &mut Vec<u8>,
+) -> Result<(), AllocError>
     requires moment { IsMomentOf (S.simulation sim.now) (Moment.Actions offers) }
     requires offered { IsOffer (S.simulation sim.now) number action.now }
-    ensures { IfOk result (λ line. line.items ≡ trace_lines.action_line
+    ensures { OnOk result (line.new.items ≡ trace_lines.action_line
         (model_in (S.simulation sim.now)) (clock_in (S.simulation sim.now)) offers number
         action.now) }
 {
     rules_are_known();
     let clock = sim.clock();
-    action_line(
-        alloc,
+    line.clear();
+    put_action_line(
+        line,
         sim.checked(),
         sim.net(),
         clock,
@@ -94,11 +97,11 @@ fn line_of<S: Simulator>(
 
 /// Writes the line of the offer of this number, from 0, which is taken.
 pub(crate) fn tell_offered<S: Simulator, W: Sink>(
-    alloc: Global,
     sim: &S,
     offers: u64,
     number: u64,
     action: &Action,
+    line: &mut Vec<u8>,
     out: &mut W,
 ) -> Result<(), Halt>
     requires moment { IsMomentOf (S.simulation sim.now) (Moment.Actions offers) }
@@ -108,16 +111,16 @@ pub(crate) fn tell_offered<S: Simulator, W: Sink>(
         action.now) (result_err result) }
 {
     rules_are_known();
-    let line = line_of(alloc, sim, offers, number, action)?;
+    make_line(sim, offers, number, action, line)?;
     put(out, line.as_slice())
 }
 
 /// The same of whichever action that is.
 pub(crate) fn tell_action<S: Simulator, W: Sink>(
-    alloc: Global,
     sim: &S,
     offers: u64,
     number: u64,
+    line: &mut Vec<u8>,
     out: &mut W,
 ) -> Result<(), Halt>
     requires moment { IsMomentOf (S.simulation sim.now) (Moment.Actions offers) }
@@ -129,7 +132,7 @@ pub(crate) fn tell_action<S: Simulator, W: Sink>(
 {
     rules_are_known();
     let action = sim.offer(number)?;
-    tell_offered(alloc, sim, offers, number, &action, out)
+    tell_offered(sim, offers, number, &action, line, out)
 }
 
 /// Writes the last line.

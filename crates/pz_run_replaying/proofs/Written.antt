@@ -17,6 +17,10 @@ err_is r halt is = let p = err_from_is_err_and r is in p.1 ∙ ap Err p.2
 pub halted_so : {T : Type 0} (r : Result T Halt) (halt : Halt) → IsErrAnd r (λ e. e ≡ halt) → result_err r ≡ Some halt
 halted_so r halt is = ap result_err (err_is r halt is)
 
+-- what is put into an empty text is all of it
+pub put_alone : (before text now : List ℕ) → before ≡ [] → now ≡ before ++ text → now ≡ text
+put_alone before text now none is = is ∙ ap (λ (l : List ℕ). l ++ text) none
+
 -- nothing of a text
 pub none_written : {T : Type 0} (known : Known) (s : SinkState) (text : List ℕ) (r : Result T Halt) → IsErrAnd r (λ e. e ≡ NoMemory) → Wrote s s text (result_err r)
 none_written known s text r is = rw (halted_so r NoMemory is) (known.wants s s [] text (known.nothing s))

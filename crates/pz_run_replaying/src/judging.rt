@@ -1,4 +1,5 @@
-// Which line of a trace is taken next.
+// Which line of a trace is taken next. The line of the rules is made in one text, which is kept for its room:
+// what it holds between two lines means nothing.
 
 ghost use Rattle.std.specs.Prelude.{◌≡◌, ◌≢◌, ◌<◌, ◌++◌, ℕ, List, IfOk, OnOk, MatchOption};
 ghost use Rattle.pz_rules.specs.declared.action.Action.{Action as TheAction};
@@ -12,8 +13,9 @@ ghost use Rattle.pz_run_replaying.specs.devices.Judging.{Judges};
 use crate::fronts::{front_len, named_offer};
 use crate::laws::rules_are_known;
 use pz_term_simulator::{Moment, Simulator};
-use pz_trace::{Ending, action_line, end_line, time_line};
+use pz_trace::{Ending, put_action_line, put_end_line, put_time_line};
 use std::alloc::{AllocError, Global};
+use std::mem;
 
 /// How a run goes on.
 #[derive(Clone, Copy)]
@@ -35,18 +37,23 @@ pub(crate) enum Judged {
     Differs { expected: Option<Vec<u8>> },
 }
 
-// The last line of a run that ends so where the simulator stands. The only error is want of memory.
-fn last_line<S: Simulator>(alloc: Global, sim: &S, ending: Ending) -> Result<Vec<u8>, AllocError>
+// Makes the last line of a run that ends so where the simulator stands. The only error is want of memory.
+fn make_last<S: Simulator>(sim: &S, ending: Ending, line: &mut Vec<u8>) -> Result<(), AllocError>
     requires ready { IsReady (S.simulation sim.now) }
     requires named { IsNamedLast (S.simulation sim.now) ending }
-    ensures { IfOk result (λ line. line.items ≡ trace_lines.end_line
+    ensures { OnOk result (line.new.items ≡ trace_lines.end_line
         (model_in (S.simulation sim.now)) (clock_in (S.simulation sim.now)) ending) }
 {
-    end_line(alloc, sim.net(), sim.clock(), &ending)
+    line.clear();
+    put_end_line(line, sim.net(), sim.clock(), &ending)
 }
 
 // How long the line of a stop is, if what is left begins with it. The only error is want of memory.
-fn stop_len<S: Simulator>(alloc: Global, sim: &S, rest: &[u8]) -> Result<Option<usize>, AllocError>
+fn stop_len<S: Simulator>(
+    sim: &S,
+    rest: &[u8],
+    line: &mut Vec<u8>,
+) -> Result<Option<usize>, AllocError>
     requires { IsReady (S.simulation sim.now) }
     ensures { IfOk result (λ found. MatchOption found ((left : List ℕ) →
         rest.now ≡ trace_lines.end_line (model_in (S.simulation sim.now))
@@ -54,29 +61,30 @@ fn stop_len<S: Simulator>(alloc: Global, sim: &S, rest: &[u8]) -> Result<Option<
         ⊥) (StartsWith rest.now (trace_lines.end_line (model_in (S.simulation sim.now))
         (clock_in (S.simulation sim.now)) Ending.Stop))) }
 {
-    let line = last_line(alloc, sim, Ending::Stop)?;
+    make_last(sim, Ending::Stop, line)?;
     Ok(front_len(rest, line.as_slice()))
 }
 
-// The line of the offer of this number, from 0, where it is taken. The only error is want of memory.
-fn offer_line<S: Simulator>(
-    alloc: Global,
+// Makes the line of the offer of this number, from 0, where it is taken. The only error is want of memory.
+fn make_offer<S: Simulator>(
     sim: &S,
     clock: u128,
     offers: u64,
     number: u64,
-) -> Result<Vec<u8>, AllocError>
+    line: &mut Vec<u8>,
+) -> Result<(), AllocError>
     requires at { clock ≡ clock_in (S.simulation sim.now) }
     requires moment { IsMomentOf (S.simulation sim.now) (Moment.Actions offers) }
     requires there { number < offers }
-    ensures { IfOk result (λ line. (a : TheAction) → IsOffer (S.simulation sim.now) number a →
-        line.items ≡ trace_lines.action_line (model_in (S.simulation sim.now))
+    ensures { OnOk result ((a : TheAction) → IsOffer (S.simulation sim.now) number a →
+        line.new.items ≡ trace_lines.action_line (model_in (S.simulation sim.now))
         (clock_in (S.simulation sim.now)) offers number a) }
 {
     rules_are_known();
     let action = sim.offer(number)?;
-    action_line(
-        alloc,
+    line.clear();
+    put_action_line(
+        line,
         sim.checked(),
         sim.net(),
         clock,
@@ -92,6 +100,7 @@ fn judge_action<S: Simulator>(
     sim: &S,
     offers: u64,
     rest: &[u8],
+    line: &mut Vec<u8>,
 ) -> Result<Judged, AllocError>
     requires ready { IsReady (S.simulation sim.now) }
     requires moment { IsMomentOf (S.simulation sim.now) (Moment.Actions offers) }
@@ -100,7 +109,7 @@ fn judge_action<S: Simulator>(
 {
     rules_are_known();
     let clock = sim.clock();
-    if let Some(len) = stop_len(alloc, sim, rest)? {
+    if let Some(len) = stop_len(sim, rest, line)? {
         return Ok(Judged::Ends {
             ending: Ending::Stop,
             len,
@@ -109,14 +118,14 @@ fn judge_action<S: Simulator>(
     let Some(number) = named_offer(rest, offers) else {
         return Ok(Judged::Differs { expected: None });
     };
-    let line = offer_line(alloc, sim, clock, offers, number)?;
+    make_offer(sim, clock, offers, number, line)?;
     match front_len(rest, line.as_slice()) {
         Some(len) => Ok(Judged::Goes {
             step: Move::Act { offers, number },
             len,
         }),
         None => Ok(Judged::Differs {
-            expected: Some(line),
+            expected: Some(mem::replace(line, Vec::new(alloc))),
         }),
     }
 }
@@ -127,26 +136,28 @@ fn judge_passing<S: Simulator>(
     sim: &S,
     time: u128,
     rest: &[u8],
+    line: &mut Vec<u8>,
 ) -> Result<Judged, AllocError>
     requires ready { IsReady (S.simulation sim.now) }
     requires moment { IsMomentOf (S.simulation sim.now) (Moment.Time time) }
     ensures { IfOk result (Judges (S.simulation sim.now) rest.now) }
 {
     rules_are_known();
-    if let Some(len) = stop_len(alloc, sim, rest)? {
+    if let Some(len) = stop_len(sim, rest, line)? {
         return Ok(Judged::Ends {
             ending: Ending::Stop,
             len,
         });
     }
-    let line = time_line(alloc, sim.clock(), time)?;
+    line.clear();
+    put_time_line(line, sim.clock(), time)?;
     match front_len(rest, line.as_slice()) {
         Some(len) => Ok(Judged::Goes {
             step: Move::Wait { time },
             len,
         }),
         None => Ok(Judged::Differs {
-            expected: Some(line),
+            expected: Some(mem::replace(line, Vec::new(alloc))),
         }),
     }
 }
@@ -157,36 +168,42 @@ fn judge_end<S: Simulator>(
     sim: &S,
     ending: Ending,
     rest: &[u8],
+    line: &mut Vec<u8>,
 ) -> Result<Judged, AllocError>
     requires ready { IsReady (S.simulation sim.now) }
     requires last { IsLast (S.simulation sim.now) ending }
     ensures { IfOk result (Judges (S.simulation sim.now) rest.now) }
 {
     rules_are_known();
-    let line = last_line(alloc, sim, ending)?;
+    make_last(sim, ending, line)?;
     match front_len(rest, line.as_slice()) {
         Some(len) => Ok(Judged::Ends { ending, len }),
         None => Ok(Judged::Differs {
-            expected: Some(line),
+            expected: Some(mem::replace(line, Vec::new(alloc))),
         }),
     }
 }
 
 /// What stands first in what is left of a trace, where the simulator stands. The only error is want of
 /// memory.
-pub(crate) fn judge<S: Simulator>(alloc: Global, sim: &S, rest: &[u8]) -> Result<Judged, AllocError>
+pub(crate) fn judge<S: Simulator>(
+    alloc: Global,
+    sim: &S,
+    rest: &[u8],
+    line: &mut Vec<u8>,
+) -> Result<Judged, AllocError>
     requires { IsReady (S.simulation sim.now) }
     ensures judges { IfOk result (Judges (S.simulation sim.now) rest.now) }
     ensures few { HasFewOffers (S.simulation sim.now) }
 {
     rules_are_known();
     match sim.moment() {
-        Moment::Actions(offers) => judge_action(alloc, sim, offers, rest),
-        Moment::Time(time) => judge_passing(alloc, sim, time, rest),
-        Moment::Finished => judge_end(alloc, sim, Ending::End, rest),
-        Moment::Deadlock => judge_end(alloc, sim, Ending::Deadlock, rest),
-        Moment::Faulty(trouble) => judge_end(alloc, sim, Ending::Trouble(trouble), rest),
-        Moment::Stopped(trouble) => judge_end(alloc, sim, Ending::Trouble(trouble), rest),
+        Moment::Actions(offers) => judge_action(alloc, sim, offers, rest, line),
+        Moment::Time(time) => judge_passing(alloc, sim, time, rest, line),
+        Moment::Finished => judge_end(alloc, sim, Ending::End, rest, line),
+        Moment::Deadlock => judge_end(alloc, sim, Ending::Deadlock, rest, line),
+        Moment::Faulty(trouble) => judge_end(alloc, sim, Ending::Trouble(trouble), rest, line),
+        Moment::Stopped(trouble) => judge_end(alloc, sim, Ending::Trouble(trouble), rest, line),
         Moment::Broken => unreachable!(),
     }
 }

@@ -24,12 +24,14 @@ use pz_trace::{form_of, header};
 use std::alloc::{AllocError, Global};
 use std::sync::ledger::Ledger;
 
-// Goes through the lines of a trace behind its header, of which the first has this number, from 1.
+// Goes through the lines of a trace behind its header, of which the first has this number, from 1. The lines of
+// the rules are made in the given text.
 fn follow<S: Simulator, L: Ledger, W: Sink>(
     alloc: Global,
     sim: &mut S,
     trace: &[u8],
     first: u64,
+    line: &mut Vec<u8>,
     steps: &mut Steps<L>,
     out: &mut W,
 ) -> Result<Replayed, Halt>
@@ -47,7 +49,7 @@ fn follow<S: Simulator, L: Ledger, W: Sink>(
     let mut rest = trace;
     let mut number = first;
     'lines: loop {
-        match judge(alloc, sim, rest)? {
+        match judge(alloc, sim, rest, line)? {
             Judged::Goes { step, len } => {
                 go(sim, step, front(rest, len), steps, out)?;
                 rest = behind(rest, len);
@@ -87,12 +89,12 @@ fn replay_lines<S: Simulator, L: Ledger, W: Sink>(
 {
     rules_are_known();
     let _model = sim.checked().model();
-    let header = header_line(alloc, sim)?;
+    let mut header = header_line(alloc, sim)?;
     let Some(len) = front_len(trace, header.as_slice()) else {
         return refuse(alloc, 1, Some(header), out);
     };
     put(out, header.as_slice())?;
-    follow(alloc, sim, behind(trace, len), 2, steps, out)
+    follow(alloc, sim, behind(trace, len), 2, &mut header, steps, out)
 }
 
 /// Replays a trace on a simulator that stands at its start. The trace is accepted exactly where it is the

@@ -25,17 +25,18 @@ saying m silently = silence
 saying m in_lines = line_of m
 saying m (with_watches ws) = judged_line m ws
 
--- the listener tells it so, and its watches have judged these events
+-- the listener tells it so, and its watches have judged these events; in which text it makes its lines is no
+-- matter
 abbrev pub Hears : ModelTree → Manner → List Event → Listener → Type 0
 Hears m silently past Silent = Unit {0}
-Hears m in_lines past Lines = Unit {0}
-Hears m (with_watches ws) past (Watches watching) = HasJudged ws (points_of m past) watching
-Hears m silently past Lines = ⊥
-Hears m silently past (Watches watching) = ⊥
+Hears m in_lines past (Lines line) = Unit {0}
+Hears m (with_watches ws) past (Watches watching line) = HasJudged ws (points_of m past) watching
+Hears m silently past (Lines line) = ⊥
+Hears m silently past (Watches watching line) = ⊥
 Hears m in_lines past Silent = ⊥
-Hears m in_lines past (Watches watching) = ⊥
+Hears m in_lines past (Watches watching line) = ⊥
 Hears m (with_watches ws) past Silent = ⊥
-Hears m (with_watches ws) past Lines = ⊥
+Hears m (with_watches ws) past (Lines line) = ⊥
 
 -- it has heard of these events, which lead to this clock
 pub record HasHeard (m : ModelTree) (manner : Manner) (past : List Event) (clock : ℕ) (listener : Listener) : Type 0 where

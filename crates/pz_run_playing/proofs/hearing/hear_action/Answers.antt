@@ -18,21 +18,21 @@ returns-in-Silent-clause-heard g c = λ a manner past offer heard.
 pub returns-in-Lines-clause-wrote : goal.returns-in-Lines-clause-wrote
 returns-in-Lines-clause-wrote g c = λ a manner past offer heard.
     let s = g.S.Simulator.simulation c.args.sim.now in
-    line_says (model_in s) manner past (acted (clock_in s) c.args.offers c.args.number a) (clock_in s) refl c.args.listener.now heard c.in-Lines.is (g.W.Sink.state c.args.out.now) (g.W.Sink.state c.tell_action.new.out) (result_err c.tell_action.result) (c.tell_action.ensures a offer)
+    line_says (model_in s) manner past (acted (clock_in s) c.args.offers c.args.number a) (clock_in s) refl c.args.listener.now heard c.in-Lines.line c.in-Lines.is (g.W.Sink.state c.args.out.now) (g.W.Sink.state c.tell_action.new.out) (result_err c.tell_action.result) (c.tell_action.ensures a offer)
 
 pub returns-in-Lines-clause-heard : goal.returns-in-Lines-clause-heard
 returns-in-Lines-clause-heard g c = λ a manner past offer heard.
     let s = g.S.Simulator.simulation c.args.sim.now in
-    line_hears (model_in s) manner past (acted (clock_in s) c.args.offers c.args.number a) (clock_in s) refl c.args.listener.now heard c.tell_action.result c.in-Lines.is
+    line_hears (model_in s) manner past (acted (clock_in s) c.args.offers c.args.number a) (clock_in s) refl c.args.listener.now heard c.in-Lines.line c.tell_action.new.line c.tell_action.result c.in-Lines.is
 
 pub returns-in-Watches-clause-wrote : goal.returns-in-Watches-clause-wrote
 returns-in-Watches-clause-wrote g c = λ a manner past offer heard.
     let s = g.S.Simulator.simulation c.args.sim.now in
-    judged_says (model_in s) manner past (acted (clock_in s) c.args.offers c.args.number a) (clock_in s) refl c.args.listener.now heard c.in-Watches.watching c.in-Watches.is (g.W.Sink.state c.args.out.now) (g.W.Sink.state c.judge_action.new.out) (result_err c.judge_action.result)
+    judged_says (model_in s) manner past (acted (clock_in s) c.args.offers c.args.number a) (clock_in s) refl c.args.listener.now heard c.in-Watches.watching c.in-Watches.line c.in-Watches.is (g.W.Sink.state c.args.out.now) (g.W.Sink.state c.judge_action.new.out) (result_err c.judge_action.result)
     (λ ws judged up. c.judge_action.ensures.wrote a ws past offer judged up)
 
 pub returns-in-Watches-clause-heard : goal.returns-in-Watches-clause-heard
 returns-in-Watches-clause-heard g c = λ a manner past offer heard.
     let s = g.S.Simulator.simulation c.args.sim.now in
-    judged_hears (model_in s) manner past (acted (clock_in s) c.args.offers c.args.number a) (clock_in s) refl c.args.listener.now heard c.in-Watches.watching c.judge_action.new.watching c.judge_action.result c.in-Watches.is
+    judged_hears (model_in s) manner past (acted (clock_in s) c.args.offers c.args.number a) (clock_in s) refl c.args.listener.now heard c.in-Watches.watching c.judge_action.new.watching c.in-Watches.line c.judge_action.new.line c.judge_action.result c.in-Watches.is
     (λ ws judged up. c.judge_action.ensures.judged a ws past offer judged up)
