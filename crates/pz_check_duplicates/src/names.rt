@@ -4,6 +4,7 @@ ghost use Rattle.std.specs.Prelude.{◌≡◌, ◌++◌, [], map, IfOk, OnOk};
 ghost use Rattle.std.specs.Option.{unwrap_or};
 ghost use Rattle.pz_syntax.specs.declared.clusters.Instance.{Instance as Tree};
 ghost use Rattle.pz_check_violations.specs.Least.{least_from};
+ghost use Rattle.pz_classes_mentions.specs.Stretches.{local_names};
 ghost use Rattle.pz_classes.specs.Members.{grouped, section};
 ghost use Rattle.pz_classes.specs.RepeatRules.{same_name};
 ghost use Rattle.pz_check_duplicates.specs.devices.Again.{repeats};
@@ -12,6 +13,7 @@ ghost use Rattle.pz_check_duplicates.specs.devices.Names.{id_of, id_place};
 use crate::again::least_again;
 use crate::places::Thing;
 use pz_check_violations::Violation;
+use pz_classes_mentions::Locals;
 use pz_items::Items;
 use pz_syntax::{Id, Instance, VarGroup};
 use std::alloc::{AllocError, Global};
@@ -63,6 +65,19 @@ pub(crate) fn push_section<'a>(
     }
 }
 
+/// Adds the names of the variables of a part of a declaration. The only error is want of memory.
+fn push_locals<'a>(
+    things: &mut Items<Thing<&'a [u8]>>,
+    locals: Locals<'a>,
+) -> Result<(), AllocError>
+    ensures { OnOk result (map id_of things.new ≡ map id_of things.old ++ local_names
+        locals.entry) }
+{
+    push_groups(things, locals.inputs)?;
+    push_groups(things, locals.outputs)?;
+    push_groups(things, locals.others)
+}
+
 /// Adds these names, if they are written. The only error is want of memory.
 pub(crate) fn push_optional<'a>(
     things: &mut Items<Thing<&'a [u8]>>,
@@ -89,17 +104,17 @@ pub(crate) fn least_name(
     least_again(alloc, 4, names, before)
 }
 
-/// The same for names that stand in a list.
-pub(crate) fn least_id(
+/// The same for the variables of a part of a declaration.
+pub(crate) fn least_variable(
     alloc: Global,
-    ids: &[Id],
+    locals: Locals,
     before: Option<Violation>,
 ) -> Result<Option<Violation>, AllocError>
     ensures { IfOk result (λ least. least ≡ least_from before
-        (repeats same_name id_place 4 ids.now)) }
+        (repeats same_name id_place 4 (local_names locals.entry))) }
 {
     let mut names = Items::new(alloc);
-    push_ids(&mut names, ids)?;
+    push_locals(&mut names, locals)?;
     least_name(alloc, names.as_slice(), before)
 }
 

@@ -13,7 +13,7 @@ ghost use Rattle.pz_check_duplicates.specs.devices.RepeatList.{of_parts, of_own}
 use crate::inherited::Inherited;
 use crate::messages::least_message;
 use crate::methods::least_method;
-use crate::names::{least_id, least_instance};
+use crate::names::{least_instance, least_variable};
 use crate::walk::least_inherited;
 use pz_check_violations::Violation;
 use pz_classes::{Classes, instances_of};
@@ -33,7 +33,7 @@ fn least_local(
     let parts = parts_of(alloc, decl)?;
     let mut least = before;
     for part in parts.as_slice() {
-        least = least_id(alloc, part.locals.as_slice(), least)?;
+        least = least_variable(alloc, part.locals(), least)?;
     }
     Ok(least)
 }

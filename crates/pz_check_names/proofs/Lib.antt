@@ -9,3 +9,4 @@ mod Walks
 mod Found
 mod Unsized
 mod Foreign
+mod Told

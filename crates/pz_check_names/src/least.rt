@@ -10,21 +10,43 @@ ghost use Rattle.pz_classes.specs.WordRules.{BreaksWord};
 ghost use Rattle.pz_classes_lineage.specs.Preorder.{visited};
 ghost use Rattle.pz_check_violations.specs.Least.{LeastOf, least_from};
 ghost use Rattle.pz_check_names.specs.devices.Inherited.{IsOpen};
-ghost use Rattle.pz_check_names.specs.devices.Scopes.{AreDeclared, IsScope, model_of, decl_of};
-ghost use Rattle.pz_check_names.specs.devices.Misuses.{of_part, of_parts, of_number, misuses};
+ghost use Rattle.pz_check_names.specs.devices.Scopes.{AreDeclared, IsScope, HasLocals, model_of, decl_of};
+ghost use Rattle.pz_check_names.specs.devices.Misuses.{at_word, of_part, of_parts, of_number, misuses};
 
 use crate::class_scope::ClassScope;
 use crate::declared::Declared;
 use crate::inherited::Inherited;
 use crate::selectors::selectors_of;
-use crate::stretch::stretch_of;
+use crate::stretch::{Stretch, stretch_of};
 use crate::words::least_at_word;
 use pz_check_violations::Violation;
 use pz_classes::{Classes, Visit, declaration};
-use pz_classes_mentions::{LocalScope, parts_of};
+use pz_classes_mentions::{Listener, Part, Word, parts_of};
 use pz_syntax::Model;
 use pz_value::ClassId;
 use std::alloc::{AllocError, Global};
+
+/// Finds the least violation in a part of a class, as it is told the words.
+#[derive(Drop)]
+struct Finder<'a> {
+    declared: &'a Declared<'a, 'a>,
+    scope: &'a ClassScope<'a, 'a>,
+    stretch: &'a Stretch<'a>,
+}
+
+impl Listener for Finder<'_> {
+    type Heard = Option<Violation>;
+
+    ghost listens = { λ f. AreDeclared f.declared.now × IsScope f.declared.now f.scope.now
+        × HasLocals f.stretch.now };
+
+    ghost after = { λ f least word. least_from least (at_word (model_of f.declared.now)
+        f.scope.now.class.0 (decl_of f.scope.now) f.stretch.now.part.now.locals word) };
+
+    fn hear(&self, heard: Option<Violation>, word: Word) -> Option<Violation> {
+        least_at_word(self.declared, self.scope, self.stretch, word, heard)
+    }
+}
 
 /// The least of what was found before and the violations in this part of a class. The only error is
 /// want of memory.
@@ -32,7 +54,7 @@ fn least_of_part(
     alloc: Global,
     declared: &Declared,
     scope: &ClassScope,
-    part: &LocalScope,
+    part: &Part,
     before: Option<Violation>,
 ) -> Result<Option<Violation>, AllocError>
     requires declares { AreDeclared declared.now }
@@ -41,11 +63,12 @@ fn least_of_part(
         (of_part (model_of declared.now) scope.now.class.0 (decl_of scope.now) part.now)) }
 {
     let stretch = stretch_of(alloc, part)?;
-    let mut least = before;
-    for word in part.mentions.as_slice() {
-        least = least_at_word(declared, scope, &stretch, word, least);
-    }
-    Ok(least)
+    let finder = Finder {
+        declared,
+        scope,
+        stretch: &stretch,
+    };
+    Ok(part.tell(&finder, before))
 }
 
 /// The least of what was found before and the violations in these parts of a class. The only error
@@ -54,7 +77,7 @@ fn least_of_parts(
     alloc: Global,
     declared: &Declared,
     scope: &ClassScope,
-    parts: &[LocalScope],
+    parts: &[Part],
     before: Option<Violation>,
 ) -> Result<Option<Violation>, AllocError>
     requires declares { AreDeclared declared.now }

@@ -4,22 +4,26 @@ ghost use Rattle.std.specs.Prelude.{◌≡◌, [], ◌∷◌, ◌++◌, List, If
 ghost use Rattle.std.specs.List.{list_any};
 ghost use Rattle.std.specs.Option.{unwrap_or};
 ghost use Rattle.pz_syntax.specs.declared.names.Id.{Id as Named};
+ghost use Rattle.pz_classes_mentions.specs.Stretches.{local_names};
 ghost use Rattle.pz_classes.specs.Members.{grouped, section};
 ghost use Rattle.pz_check_names.specs.devices.Shown.{ShowsNames};
 ghost use Rattle.pz_classes.specs.Words.{is_among};
 
 use pz_check_scopes::Nested;
+use pz_classes_mentions::Locals;
 use pz_items::Items;
 use pz_syntax::{Id, Name, VarGroup};
 use std::alloc::{AllocError, Global};
 
-/// One scope with these names. The only error is want of memory.
-pub(crate) fn scope_of(alloc: Global, ids: &[Id]) -> Result<Nested<&[u8], ()>, AllocError>
-    ensures { IfOk result (ShowsNames (ids.now ∷ [])) }
+/// One scope with the names of these variables. The only error is want of memory.
+pub(crate) fn scope_of(alloc: Global, locals: Locals) -> Result<Nested<&[u8], ()>, AllocError>
+    ensures { IfOk result (ShowsNames (local_names locals.entry ∷ [])) }
 {
     let mut names = Nested::new(alloc);
     names.open()?;
-    note_ids(&mut names, ids)?;
+    note_groups(&mut names, locals.inputs)?;
+    note_groups(&mut names, locals.outputs)?;
+    note_groups(&mut names, locals.others)?;
     Ok(names)
 }
 

@@ -1,9 +1,10 @@
 // Whether C13 or C18 is broken, where the size of the system cannot be told.
 
-ghost use Rattle.std.specs.Prelude.{◌≡◌, ◌⊎◌, true, false, IfOk};
+ghost use Rattle.std.specs.Prelude.{◌≡◌, ◌⊎◌, ◌||◌, true, false, IfOk};
 ghost use Rattle.std.specs.List.{list_any};
 ghost use Rattle.pz_syntax.specs.declared.tokens.Pos.{Pos as Place};
 ghost use Rattle.pz_syntax.specs.ClassView.{model_view};
+ghost use Rattle.pz_classes_mentions.specs.Words.{mention};
 ghost use Rattle.pz_classes.specs.devices.Rows.{AreClasses};
 ghost use Rattle.pz_classes.specs.WordRules.{BreaksWord};
 ghost use Rattle.pz_check_violations.specs.Order.{violation};
@@ -12,46 +13,61 @@ ghost use Rattle.pz_check_names.specs.devices.Unsized as spec;
 use crate::rules::has_instances;
 use pz_classes::Classes;
 use pz_classes_code::is_unsupported;
-use pz_classes_mentions::{LocalScope, Mention, parts_of};
+use pz_classes_mentions::{Listener, Part, Word, parts_of};
 use pz_syntax::Model;
 use std::alloc::{AllocError, Global};
 
 /// Whether C13 or C18 is broken at this word.
-fn is_unsized(model: &Model, classes: &Classes, word: &Mention) -> bool
+fn is_unsized(model: &Model, classes: &Classes, word: Word) -> bool
     requires { AreClasses (model_view model.now) classes.now }
-    ensures { result ≡ spec.is_unsized (model_view model.now) word.now }
+    ensures { result ≡ spec.is_unsized (model_view model.now) (mention word.entry) }
 {
     match word {
-        Mention::Instantiated(x) => {
+        Word::Instantiated(x) => {
             is_unsupported(&x.name) || !has_instances(model, classes, &x.name)
         }
-        Mention::Declared(x) => is_unsupported(&x.name),
-        Mention::Extended(x) => is_unsupported(&x.name),
-        Mention::Typed(x) => is_unsupported(&x.name),
-        Mention::Created(x) => is_unsupported(&x.name),
-        Mention::Float(_) => true,
+        Word::Declared(x) => is_unsupported(&x.name),
+        Word::Extended(x) => is_unsupported(&x.name),
+        Word::Typed(x) => is_unsupported(&x.name),
+        Word::Created(x) => is_unsupported(&x.name),
+        Word::Float(_) => true,
         _ => false,
     }
 }
 
-fn is_one_unsized(model: &Model, classes: &Classes, words: &[Mention]) -> bool
-    requires { AreClasses (model_view model.now) classes.now }
-    ensures { result ≡ list_any (spec.is_unsized (model_view model.now)) words.now }
-{
-    for word in words {
-        if is_unsized(model, classes, word) {
-            return true;
-        }
-    }
-    false
+/// Whether C13 or C18 was broken at a word that it was told.
+#[derive(Drop)]
+struct Sizes<'a> {
+    model: &'a Model,
+    classes: &'a Classes,
 }
 
-fn has_unsized_part(model: &Model, classes: &Classes, parts: &[LocalScope]) -> bool
+impl Listener for Sizes<'_> {
+    type Heard = bool;
+
+    ghost listens = { λ s. AreClasses (model_view s.model.now) s.classes.now };
+
+    ghost after = { λ s has word. has || spec.is_unsized (model_view s.model.now) word };
+
+    fn hear(&self, heard: bool, word: Word) -> bool {
+        heard || is_unsized(self.model, self.classes, word)
+    }
+}
+
+/// Whether C13 or C18 is broken at a word of this part.
+fn is_unsized_part(model: &Model, classes: &Classes, part: &Part) -> bool
+    requires { AreClasses (model_view model.now) classes.now }
+    ensures { result ≡ spec.is_unsized_part (model_view model.now) part.now }
+{
+    part.tell(&Sizes { model, classes }, false)
+}
+
+fn has_unsized_part(model: &Model, classes: &Classes, parts: &[Part]) -> bool
     requires { AreClasses (model_view model.now) classes.now }
     ensures { result ≡ list_any (spec.is_unsized_part (model_view model.now)) parts.now }
 {
     for part in parts {
-        if is_one_unsized(model, classes, part.mentions.as_slice()) {
+        if is_unsized_part(model, classes, part) {
             return true;
         }
     }

@@ -4,14 +4,14 @@ ghost use Rattle.pz_check_names.specs.devices.Scopes.{HasLocals};
 
 use crate::names::{has_name, scope_of};
 use pz_check_scopes::Nested;
-use pz_classes_mentions::LocalScope;
+use pz_classes_mentions::Part;
 use pz_syntax::Name;
 use std::alloc::{AllocError, Global};
 
 /// A part of a class, and its local names in one scope.
 #[derive(Drop)]
 pub(crate) struct Stretch<'a> {
-    pub(crate) part: &'a LocalScope,
+    pub(crate) part: &'a Part<'a>,
     pub(crate) locals: Nested<&'a [u8], ()>,
 }
 
@@ -26,10 +26,10 @@ impl Stretch<'_> {
 }
 
 /// The only error is want of memory.
-pub(crate) fn stretch_of(alloc: Global, part: &LocalScope) -> Result<Stretch, AllocError>
+pub(crate) fn stretch_of<'a>(alloc: Global, part: &'a Part<'a>) -> Result<Stretch<'a>, AllocError>
     ensures locals { IfOk result HasLocals }
     ensures part { IfOk result (λ s. s.part.now ≡ part.now) }
 {
-    let locals = scope_of(alloc, part.locals.as_slice())?;
+    let locals = scope_of(alloc, part.locals())?;
     Ok(Stretch { part, locals })
 }

@@ -4,6 +4,7 @@ ghost use Rattle.std.specs.Prelude.{◌≡◌, not, ◌&&◌, ◌++◌};
 ghost use Rattle.pz_classes_code.specs.ReservedNames as reserved;
 ghost use Rattle.pz_check_violations.specs.Order.{violation};
 ghost use Rattle.pz_check_violations.specs.Least.{least_from, listed};
+ghost use Rattle.pz_classes_mentions.specs.Words.{mention};
 ghost use Rattle.pz_check_names.specs.devices.Scopes.{AreDeclared, IsScope, HasLocals, model_of, decl_of};
 ghost use Rattle.pz_check_names.specs.devices.Misuses.{at_word};
 
@@ -16,7 +17,7 @@ use crate::scopes::{
 use crate::stretch::Stretch;
 use pz_check_violations::{Violation, lesser};
 use pz_classes_code::is_unsupported;
-use pz_classes_mentions::Mention;
+use pz_classes_mentions::Word;
 use pz_syntax::{Id, Pos};
 
 /// The least of what was found before and this rule at this place, if it is broken there.
@@ -51,56 +52,56 @@ pub(crate) fn least_at_word(
     declared: &Declared,
     scope: &ClassScope,
     stretch: &Stretch,
-    word: &Mention,
+    word: Word,
     before: Option<Violation>,
 ) -> Option<Violation>
     requires declares { AreDeclared declared.now }
     requires scoped { IsScope declared.now scope.now }
     requires local { HasLocals stretch.now }
     ensures { result ≡ least_from before (at_word (model_of declared.now) scope.now.class.0
-        (decl_of scope.now) stretch.now.part.now.locals word.now) }
+        (decl_of scope.now) stretch.now.part.now.locals (mention word.entry)) }
 {
     let model = declared.model;
     let classes = declared.classes;
     let in_data = is_data(scope.decl);
     match word {
-        Mention::Declared(x) => noted_class(before, x, never_starts(declared, scope), 11),
-        Mention::Extended(x) => noted(before, is_unsupported(&x.name), 18, x.pos),
-        Mention::Typed(x) => noted_class(before, x, !is_type(model, classes, &x.name), 5),
-        Mention::Created(x) => noted_class(before, x, !may_create(model, classes, &x.name), 12),
-        Mention::Instantiated(x) => {
+        Word::Declared(x) => noted_class(before, x, never_starts(declared, scope), 11),
+        Word::Extended(x) => noted(before, is_unsupported(&x.name), 18, x.pos),
+        Word::Typed(x) => noted_class(before, x, !is_type(model, classes, &x.name), 5),
+        Word::Created(x) => noted_class(before, x, !may_create(model, classes, &x.name), 12),
+        Word::Instantiated(x) => {
             noted_class(before, x, !has_instances(model, classes, &x.name), 13)
         }
-        Mention::Variable(x) => {
-            let lacks = lacks_variable(declared, scope, stretch, &x.name);
-            noted(before, lacks, 6, x.pos)
+        Word::Variable { name, pos } => {
+            let lacks = lacks_variable(declared, scope, stretch, name);
+            noted(before, lacks, 6, pos)
         }
-        Mention::Called {
+        Word::Called {
             name,
             inputs,
             outputs,
         } => {
-            let lacks = lacks_method(declared, scope, &name.name, *inputs, *outputs);
+            let lacks = lacks_method(declared, scope, &name.name, inputs, outputs);
             noted(before, lacks, 7, name.pos)
         }
-        Mention::Selector { name, count } => {
-            let lacks = lacks_selector(declared, &name.name, *count);
+        Word::Selector { name, count } => {
+            let lacks = lacks_selector(declared, &name.name, count);
             noted(before, lacks, 8, name.pos)
         }
-        Mention::Port(x) => noted(before, lacks_port(declared, scope, &x.name), 9, x.pos),
-        Mention::Sent { port, name, count } => {
+        Word::Port(x) => noted(before, lacks_port(declared, scope, &x.name), 9, x.pos),
+        Word::Sent { port, name, count } => {
             let (port, sent) = (&port.name, &name.name);
-            let lacks = lacks_message(declared, scope, port, true, sent, *count);
+            let lacks = lacks_message(declared, scope, port, true, sent, count);
             noted(before, lacks, 10, name.pos)
         }
-        Mention::Received { port, name, count } => {
+        Word::Received { port, name, count } => {
             let (port, received) = (&port.name, &name.name);
-            let lacks = lacks_message(declared, scope, port, false, received, *count);
+            let lacks = lacks_message(declared, scope, port, false, received, count);
             noted(before, lacks, 10, name.pos)
         }
-        Mention::Clock(pos) => noted(before, in_data, 21, *pos),
-        Mention::Me(pos) => noted(before, !in_data, 22, *pos),
-        Mention::Return(pos) => noted(before, !in_data, 22, *pos),
-        Mention::Float(pos) => noted(before, true, 18, *pos),
+        Word::Clock(pos) => noted(before, in_data, 21, pos),
+        Word::Me(pos) => noted(before, !in_data, 22, pos),
+        Word::Return(pos) => noted(before, !in_data, 22, pos),
+        Word::Float(pos) => noted(before, true, 18, pos),
     }
 }

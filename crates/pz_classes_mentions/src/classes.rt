@@ -1,199 +1,163 @@
-// The parts of data classes and of process classes.
+// What the parts of declarations mention.
 
-ghost use Rattle.std.specs.Prelude.{◌≡◌, [], ◌∷◌, ◌++◌, map, option_map, IfOk, OnOk};
+ghost use Rattle.std.specs.Prelude.{◌≡◌, [], option_map};
 ghost use Rattle.std.specs.Option.{unwrap_or};
 ghost use Rattle.pz_syntax.specs.ClassView.{start_view, data_method_view, data_class_view, process_method_view, process_class_view};
-ghost use Rattle.pz_classes_mentions.specs.declared.mention.Mention.TheVariants as m;
-ghost use Rattle.pz_classes_mentions.specs.Declarations.{named_types, extended, mentioned_message, mentioned_messages, mentioned_start, data_head, data_method, process_head, process_method, data_class_parts, process_class_parts};
+ghost use Rattle.pz_classes_mentions.specs.Declarations as parts;
+ghost use Rattle.pz_classes_mentions.specs.Declarations.{extended, mentioned_message, mentioned_messages, mentioned_start};
+ghost use Rattle.pz_classes_mentions.specs.Words.{told};
 
-use crate::adding::{add_port, add_type};
-use crate::expressions::{add_exprs, count_exprs};
-use crate::groups::{add_section_types, add_types, push_names, push_section_names};
-use crate::statements::add_statements;
-use crate::{LocalScope, Mention};
+use crate::expressions::{count_exprs, tell_exprs};
+use crate::groups::{section, tell_named_types, tell_types};
+use crate::instances::tell_instances;
+use crate::statements::tell_statements;
+use crate::{Listener, Word};
 use pz_items::Items;
-use pz_syntax::{DataClass, DataMethod, Id, Message, ProcessClass, ProcessMethod, Start};
-use std::alloc::{AllocError, Global};
+use pz_syntax::{
+    ClusterClass, DataClass, DataMethod, Id, Message, ProcessClass, ProcessMethod, Start,
+};
 
-pub(crate) fn add_declared(out: &mut Items<Mention>, name: &Id) -> Result<(), AllocError>
-    ensures { OnOk result (out.new ≡ out.old ++ m.Declared name.now ∷ []) }
-{
-    out.push(Mention::Declared(name.copy()?))
-}
-
-fn add_extended(out: &mut Items<Mention>, parent: &Option<Id>) -> Result<(), AllocError>
-    ensures { OnOk result (out.new ≡ out.old ++ extended parent.now) }
+fn tell_extended<L: Listener>(listener: &L, heard: L::Heard, parent: &Option<Id>) -> L::Heard
+    requires { L.listens listener.now }
+    ensures { result ≡ told (L.after listener.now) heard (extended parent.now) }
 {
     match parent {
-        None => Ok(()),
-        Some(parent) => out.push(Mention::Extended(parent.copy()?)),
+        None => heard,
+        Some(parent) => listener.hear(heard, Word::Extended(parent)),
     }
 }
 
-fn add_named_types(out: &mut Items<Mention>, types: &[Id]) -> Result<(), AllocError>
-    ensures { OnOk result (out.new ≡ out.old ++ named_types types.now) }
+fn tell_message<L: Listener>(listener: &L, heard: L::Heard, message: &Message) -> L::Heard
+    requires { L.listens listener.now }
+    ensures { result ≡ told (L.after listener.now) heard (mentioned_message message.now) }
 {
-    for kind in types {
-        add_type(out, kind)?;
-    }
-    Ok(())
-}
-
-fn add_message(out: &mut Items<Mention>, message: &Message) -> Result<(), AllocError>
-    ensures { OnOk result (out.new ≡ out.old ++ mentioned_message message.now) }
-{
-    add_port(out, &message.port)?;
+    let heard = listener.hear(heard, Word::Port(&message.port));
     match &message.types {
-        None => Ok(()),
-        Some(types) => add_named_types(out, types.as_slice()),
+        None => heard,
+        Some(types) => tell_named_types(listener, heard, types.as_slice()),
     }
 }
 
-fn add_each_message(out: &mut Items<Mention>, messages: &[Message]) -> Result<(), AllocError>
-    ensures { OnOk result (out.new ≡ out.old ++ mentioned_messages messages.now) }
+#[tactic(auto, using(crate::proofs::Told::told_append))]
+fn tell_each_message<L: Listener>(listener: &L, heard: L::Heard, messages: &[Message]) -> L::Heard
+    requires { L.listens listener.now }
+    ensures { result ≡ told (L.after listener.now) heard (mentioned_messages messages.now) }
 {
+    let mut heard = heard;
     for message in messages {
-        add_message(out, message)?;
+        heard = tell_message(listener, heard, message);
     }
-    Ok(())
+    heard
 }
 
 /// Nothing where the section is not written.
-fn add_messages(
-    out: &mut Items<Mention>,
+fn tell_messages<L: Listener>(
+    listener: &L,
+    heard: L::Heard,
     messages: &Option<Items<Message>>,
-) -> Result<(), AllocError>
-    ensures { OnOk result (out.new ≡ out.old ++ mentioned_messages (unwrap_or messages.now [])) }
+) -> L::Heard
+    requires { L.listens listener.now }
+    ensures { result ≡ told (L.after listener.now) heard (mentioned_messages
+        (unwrap_or messages.now [])) }
 {
     match messages {
-        None => Ok(()),
-        Some(messages) => add_each_message(out, messages.as_slice()),
+        None => heard,
+        Some(messages) => tell_each_message(listener, heard, messages.as_slice()),
     }
 }
 
-fn add_start(out: &mut Items<Mention>, start: &Option<Start>) -> Result<(), AllocError>
-    ensures { OnOk result (out.new ≡ out.old ++ mentioned_start (option_map start_view start.now)) }
+fn tell_start<L: Listener>(listener: &L, heard: L::Heard, start: &Option<Start>) -> L::Heard
+    requires { L.listens listener.now }
+    ensures { result ≡ told (L.after listener.now) heard (mentioned_start
+        (option_map start_view start.now)) }
 {
     let Some(start) = start else {
-        return Ok(());
+        return heard;
     };
-    out.push(Mention::Called {
-        name: start.method.copy()?,
+    let call = Word::Called {
+        name: &start.method,
         inputs: count_exprs(start.args.as_slice()),
         outputs: 0,
-    })?;
-    add_exprs(out, start.args.as_slice())
+    };
+    let heard = listener.hear(heard, call);
+    tell_exprs(listener, heard, start.args.as_slice())
 }
 
-fn data_head_of(alloc: Global, class: &DataClass) -> Result<LocalScope, AllocError>
-    ensures { IfOk result (λ part. part ≡ data_head (data_class_view class.now)) }
+#[tactic(auto, using(crate::proofs::Told::told_append))]
+pub(crate) fn tell_data_head<L: Listener>(
+    listener: &L,
+    heard: L::Heard,
+    class: &DataClass,
+) -> L::Heard
+    requires { L.listens listener.now }
+    ensures { result ≡ told (L.after listener.now) heard
+        (parts.data_head (data_class_view class.now)).mentions }
 {
-    let mut mentions = Items::new(alloc);
-    add_declared(&mut mentions, &class.name)?;
-    add_extended(&mut mentions, &class.parent)?;
-    add_section_types(&mut mentions, &class.variables)?;
-    Ok(LocalScope {
-        locals: Items::new(alloc),
-        mentions,
-    })
+    let heard = listener.hear(heard, Word::Declared(&class.name));
+    let heard = tell_extended(listener, heard, &class.parent);
+    tell_types(listener, heard, section(&class.variables))
 }
 
-fn data_method_of(alloc: Global, method: &DataMethod) -> Result<LocalScope, AllocError>
-    ensures { IfOk result (λ part. part ≡ data_method (data_method_view method.now)) }
+#[tactic(auto, using(crate::proofs::Told::told_append))]
+pub(crate) fn tell_data_method<L: Listener>(
+    listener: &L,
+    heard: L::Heard,
+    method: &DataMethod,
+) -> L::Heard
+    requires { L.listens listener.now }
+    ensures { result ≡ told (L.after listener.now) heard
+        (parts.data_method (data_method_view method.now)).mentions }
 {
-    let mut locals = Items::new(alloc);
-    push_section_names(&mut locals, &method.inputs)?;
-    push_section_names(&mut locals, &method.locals)?;
-    let mut mentions = Items::new(alloc);
-    add_section_types(&mut mentions, &method.inputs)?;
-    add_type(&mut mentions, &method.result)?;
-    add_section_types(&mut mentions, &method.locals)?;
-    add_exprs(&mut mentions, method.body.as_slice())?;
-    Ok(LocalScope { locals, mentions })
+    let heard = tell_types(listener, heard, section(&method.inputs));
+    let heard = listener.hear(heard, Word::Typed(&method.result));
+    let heard = tell_types(listener, heard, section(&method.locals));
+    tell_exprs(listener, heard, method.body.as_slice())
 }
 
-fn push_data_methods(
-    alloc: Global,
-    out: &mut Items<LocalScope>,
-    methods: &[DataMethod],
-) -> Result<(), AllocError>
-    ensures { OnOk result (out.new ≡ out.old ++ map data_method
-        (map data_method_view methods.now)) }
-{
-    for method in methods {
-        out.push(data_method_of(alloc, method)?)?;
-    }
-    Ok(())
-}
-
-/// The parts of a data class.
-pub(crate) fn data_parts(alloc: Global, class: &DataClass) -> Result<Items<LocalScope>, AllocError>
-    ensures { IfOk result (λ ps. ps ≡ data_class_parts (data_class_view class.now)) }
-{
-    let mut out = Items::new(alloc);
-    out.push(data_head_of(alloc, class)?)?;
-    if let Some(methods) = &class.methods {
-        push_data_methods(alloc, &mut out, methods.as_slice())?;
-    }
-    Ok(out)
-}
-
-fn process_head_of(alloc: Global, class: &ProcessClass) -> Result<LocalScope, AllocError>
-    ensures { IfOk result (λ part. part ≡ process_head (process_class_view class.now)) }
-{
-    let mut mentions = Items::new(alloc);
-    add_declared(&mut mentions, &class.name)?;
-    add_section_types(&mut mentions, &class.parameters)?;
-    add_extended(&mut mentions, &class.parent)?;
-    add_messages(&mut mentions, &class.messages)?;
-    add_section_types(&mut mentions, &class.variables)?;
-    add_start(&mut mentions, &class.start)?;
-    Ok(LocalScope {
-        locals: Items::new(alloc),
-        mentions,
-    })
-}
-
-fn process_method_of(alloc: Global, method: &ProcessMethod) -> Result<LocalScope, AllocError>
-    ensures { IfOk result (λ part. part ≡ process_method (process_method_view method.now)) }
-{
-    let mut locals = Items::new(alloc);
-    push_names(&mut locals, method.inputs.as_slice())?;
-    push_names(&mut locals, method.outputs.as_slice())?;
-    push_section_names(&mut locals, &method.locals)?;
-    let mut mentions = Items::new(alloc);
-    add_types(&mut mentions, method.inputs.as_slice())?;
-    add_types(&mut mentions, method.outputs.as_slice())?;
-    add_section_types(&mut mentions, &method.locals)?;
-    add_statements(&mut mentions, method.body.as_slice())?;
-    Ok(LocalScope { locals, mentions })
-}
-
-fn push_process_methods(
-    alloc: Global,
-    out: &mut Items<LocalScope>,
-    methods: &[ProcessMethod],
-) -> Result<(), AllocError>
-    ensures { OnOk result (out.new ≡ out.old ++ map process_method
-        (map process_method_view methods.now)) }
-{
-    for method in methods {
-        out.push(process_method_of(alloc, method)?)?;
-    }
-    Ok(())
-}
-
-/// The parts of a process class.
-pub(crate) fn process_parts(
-    alloc: Global,
+#[tactic(auto, using(crate::proofs::Told::told_append))]
+pub(crate) fn tell_process_head<L: Listener>(
+    listener: &L,
+    heard: L::Heard,
     class: &ProcessClass,
-) -> Result<Items<LocalScope>, AllocError>
-    ensures { IfOk result (λ ps. ps ≡ process_class_parts (process_class_view class.now)) }
+) -> L::Heard
+    requires { L.listens listener.now }
+    ensures { result ≡ told (L.after listener.now) heard
+        (parts.process_head (process_class_view class.now)).mentions }
 {
-    let mut out = Items::new(alloc);
-    out.push(process_head_of(alloc, class)?)?;
-    if let Some(methods) = &class.methods {
-        push_process_methods(alloc, &mut out, methods.as_slice())?;
-    }
-    Ok(out)
+    let heard = listener.hear(heard, Word::Declared(&class.name));
+    let heard = tell_types(listener, heard, section(&class.parameters));
+    let heard = tell_extended(listener, heard, &class.parent);
+    let heard = tell_messages(listener, heard, &class.messages);
+    let heard = tell_types(listener, heard, section(&class.variables));
+    tell_start(listener, heard, &class.start)
+}
+
+#[tactic(auto, using(crate::proofs::Told::told_append))]
+pub(crate) fn tell_process_method<L: Listener>(
+    listener: &L,
+    heard: L::Heard,
+    method: &ProcessMethod,
+) -> L::Heard
+    requires { L.listens listener.now }
+    ensures { result ≡ told (L.after listener.now) heard
+        (parts.process_method (process_method_view method.now)).mentions }
+{
+    let heard = tell_types(listener, heard, method.inputs.as_slice());
+    let heard = tell_types(listener, heard, method.outputs.as_slice());
+    let heard = tell_types(listener, heard, section(&method.locals));
+    tell_statements(listener, heard, method.body.as_slice())
+}
+
+#[tactic(auto, using(crate::proofs::Told::told_append))]
+pub(crate) fn tell_cluster<L: Listener>(
+    listener: &L,
+    heard: L::Heard,
+    class: &ClusterClass,
+) -> L::Heard
+    requires { L.listens listener.now }
+    ensures { result ≡ told (L.after listener.now) heard (parts.cluster_part class.now).mentions }
+{
+    let heard = listener.hear(heard, Word::Declared(&class.name));
+    let heard = tell_types(listener, heard, section(&class.parameters));
+    tell_instances(listener, heard, &class.instances)
 }

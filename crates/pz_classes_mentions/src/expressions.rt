@@ -1,13 +1,14 @@
-ghost use Rattle.std.specs.Prelude.{◌≡◌, [], ◌∷◌, ◌++◌, map, IfOk, OnOk};
+ghost use Rattle.std.specs.Prelude.{◌≡◌, [], ◌∷◌, map};
+ghost use Rattle.std.specs.Option.{option_copied};
 ghost use Rattle.pz_syntax.specs.ExpressionView.{view, list_view, part_view, link_view, sending_view, links_of, sendings_of};
 ghost use Rattle.pz_classes_mentions.specs.declared.mention.Mention.TheVariants as m;
 ghost use Rattle.pz_classes_mentions.specs.Expressions.{count, count_written, mentioned, mentioned_all, mentioned_literal, mentioned_part, mentioned_links, mentioned_sendings};
+ghost use Rattle.pz_classes_mentions.specs.Statements.{variables};
+ghost use Rattle.pz_classes_mentions.specs.Words.{mention, told};
 
-use crate::Mention;
-use crate::adding::add_variable;
+use crate::{Listener, Word};
 use pz_items::{Boxed, Items};
-use pz_syntax::{Expr, ExprForm, Id, Link, Literal, Name, Pos, Sending};
-use std::alloc::AllocError;
+use pz_syntax::{Expr, ExprForm, Id, Link, Literal, Pos, Sending};
 
 /// How many expressions these are.
 #[tactic(auto, using(crate::proofs::Counts::count_length))]
@@ -18,8 +19,8 @@ pub(crate) fn count_exprs(es: &[Expr]) -> usize
 }
 
 /// How many arguments are written.
-pub(crate) fn count_args(args: &Option<Items<Expr>>) -> usize
-    ensures { result ≡ count_written (part_view args.now) }
+pub(crate) fn count_args(args: Option<&Items<Expr>>) -> usize
+    ensures { result ≡ count_written (part_view (option_copied args.entry)) }
 {
     match args {
         None => 0,
@@ -27,133 +28,166 @@ pub(crate) fn count_args(args: &Option<Items<Expr>>) -> usize
     }
 }
 
-pub(crate) fn add_literal(
-    out: &mut Items<Mention>,
-    literal: &Literal,
-    pos: Pos,
-) -> Result<(), AllocError>
-    ensures { OnOk result (out.new ≡ out.old ++ mentioned_literal pos literal.now) }
+pub(crate) fn variable(x: &Id) -> Word
+    ensures { mention result ≡ m.Variable x.now }
 {
-    match literal {
-        Literal::Float => out.push(Mention::Float(pos)),
-        _ => Ok(()),
+    Word::Variable {
+        name: &x.name,
+        pos: x.pos,
     }
 }
 
-fn add_name(out: &mut Items<Mention>, name: &Name, pos: Pos) -> Result<(), AllocError>
-    ensures { OnOk result (out.new ≡ out.old ++ m.Variable
-        (record { name = name.now; pos = pos }) ∷ []) }
+pub(crate) fn tell_literal<L: Listener>(
+    listener: &L,
+    heard: L::Heard,
+    literal: &Literal,
+    pos: Pos,
+) -> L::Heard
+    requires { L.listens listener.now }
+    ensures { result ≡ told (L.after listener.now) heard (mentioned_literal pos literal.now) }
 {
-    let name = name.copy()?;
-    out.push(Mention::Variable(Id { name, pos }))
+    match literal {
+        Literal::Float => listener.hear(heard, Word::Float(pos)),
+        _ => heard,
+    }
 }
 
-fn add_creation(out: &mut Items<Mention>, class: &Id) -> Result<(), AllocError>
-    ensures { OnOk result (out.new ≡ out.old ++ m.Created class.now ∷ []) }
-{
-    out.push(Mention::Created(class.copy()?))
-}
-
-#[cycle(add)]
-pub(crate) fn add_expr(out: &mut Items<Mention>, e: &Expr) -> Result<(), AllocError>
-    ensures { OnOk result (out.new ≡ out.old ++ mentioned (view e.now)) }
+#[cycle(tell)]
+#[tactic(auto, using(crate::proofs::Told::told_append))]
+pub(crate) fn tell_expr<L: Listener>(listener: &L, heard: L::Heard, e: &Expr) -> L::Heard
+    requires { L.listens listener.now }
+    ensures { result ≡ told (L.after listener.now) heard (mentioned (view e.now)) }
 {
     match &e.form {
-        ExprForm::Lit(literal) => add_literal(out, literal, e.pos),
-        ExprForm::Var(name) => add_name(out, name, e.pos),
-        ExprForm::Me => out.push(Mention::Me(e.pos)),
-        ExprForm::Clock => out.push(Mention::Clock(e.pos)),
-        ExprForm::New(class) => add_creation(out, class.get()),
-        ExprForm::Group(es) => add_exprs(out, es.as_slice()),
+        ExprForm::Lit(literal) => tell_literal(listener, heard, literal, e.pos),
+        ExprForm::Var(name) => listener.hear(heard, Word::Variable { name, pos: e.pos }),
+        ExprForm::Me => listener.hear(heard, Word::Me(e.pos)),
+        ExprForm::Clock => listener.hear(heard, Word::Clock(e.pos)),
+        ExprForm::New(class) => listener.hear(heard, Word::Created(class.get())),
+        ExprForm::Group(es) => tell_exprs(listener, heard, es.as_slice()),
         ExprForm::Chain(first, links) => {
-            add_expr(out, first.get())?;
-            add_links(out, links.get().as_slice())
+            let heard = tell_expr(listener, heard, first.get());
+            tell_links(listener, heard, links.get().as_slice())
         }
         ExprForm::Sends(receiver, sendings) => {
-            add_expr(out, receiver.get())?;
-            add_sendings(out, sendings.get().as_slice())
+            let heard = tell_expr(listener, heard, receiver.get());
+            tell_sendings(listener, heard, sendings.get().as_slice())
         }
-        ExprForm::Unary(_, operand) => add_expr(out, operand.get()),
-        ExprForm::Assign(variable, value) => {
-            add_variable(out, variable.get())?;
-            add_expr(out, value.get())
+        ExprForm::Unary(_, operand) => tell_expr(listener, heard, operand.get()),
+        ExprForm::Assign(x, value) => {
+            let heard = listener.hear(heard, variable(x.get()));
+            tell_expr(listener, heard, value.get())
         }
         ExprForm::Return(value) => {
-            out.push(Mention::Return(e.pos))?;
-            add_expr(out, value.get())
+            let heard = listener.hear(heard, Word::Return(e.pos));
+            tell_expr(listener, heard, value.get())
         }
         ExprForm::If(test, body, other) => {
-            add_expr(out, test.get())?;
-            add_exprs(out, body.get().as_slice())?;
+            let heard = tell_expr(listener, heard, test.get());
+            let heard = tell_exprs(listener, heard, body.get().as_slice());
             match other.get() {
-                None => Ok(()),
-                Some(other) => add_exprs(out, other.as_slice()),
+                None => heard,
+                Some(other) => tell_exprs(listener, heard, other.as_slice()),
             }
         }
         ExprForm::While(test, body) => {
-            add_expr(out, test.get())?;
-            add_exprs(out, body.get().as_slice())
+            let heard = tell_expr(listener, heard, test.get());
+            tell_exprs(listener, heard, body.get().as_slice())
         }
     }
 }
 
-#[cycle(add)]
-pub(crate) fn add_exprs(out: &mut Items<Mention>, es: &[Expr]) -> Result<(), AllocError>
-    ensures { OnOk result (out.new ≡ out.old ++ mentioned_all (list_view es.now)) }
+#[cycle(tell)]
+#[tactic(auto, using(crate::proofs::Told::told_append))]
+pub(crate) fn tell_exprs<L: Listener>(listener: &L, heard: L::Heard, es: &[Expr]) -> L::Heard
+    requires { L.listens listener.now }
+    ensures { result ≡ told (L.after listener.now) heard (mentioned_all (list_view es.now)) }
 {
+    let mut heard = heard;
     for e in es {
-        add_expr(out, e)?;
+        heard = tell_expr(listener, heard, e);
     }
-    Ok(())
+    heard
 }
 
-#[cycle(add)]
-fn add_links(out: &mut Items<Mention>, links: &[Link]) -> Result<(), AllocError>
-    ensures { OnOk result (out.new ≡ out.old ++ mentioned_links
+#[cycle(tell)]
+#[tactic(auto, using(crate::proofs::Told::told_append))]
+fn tell_links<L: Listener>(listener: &L, heard: L::Heard, links: &[Link]) -> L::Heard
+    requires { L.listens listener.now }
+    ensures { result ≡ told (L.after listener.now) heard (mentioned_links
         (links_of (map link_view links.now))) }
 {
+    let mut heard = heard;
     for link in links {
-        add_expr(out, &link.operand)?;
+        heard = tell_expr(listener, heard, &link.operand);
     }
-    Ok(())
+    heard
 }
 
-fn add_selector(
-    out: &mut Items<Mention>,
-    selector: &Id,
-    args: &Option<Items<Expr>>,
-) -> Result<(), AllocError>
-    ensures { OnOk result (out.new ≡ out.old ++ m.Selector selector.now
-        (count_written (part_view args.now)) ∷ []) }
+fn tell_selector<L: Listener>(
+    listener: &L,
+    heard: L::Heard,
+    name: &Id,
+    args: Option<&Items<Expr>>,
+) -> L::Heard
+    requires { L.listens listener.now }
+    ensures { result ≡ told (L.after listener.now) heard (m.Selector name.now
+        (count_written (part_view (option_copied args.entry))) ∷ []) }
 {
-    let name = selector.copy()?;
     let count = count_args(args);
-    out.push(Mention::Selector { name, count })
+    listener.hear(heard, Word::Selector { name, count })
 }
 
-#[cycle(add)]
-fn add_sendings(out: &mut Items<Mention>, sendings: &[Sending]) -> Result<(), AllocError>
-    ensures { OnOk result (out.new ≡ out.old ++ mentioned_sendings
+#[cycle(tell)]
+#[tactic(auto, using(crate::proofs::Told::told_append))]
+fn tell_sendings<L: Listener>(listener: &L, heard: L::Heard, sendings: &[Sending]) -> L::Heard
+    requires { L.listens listener.now }
+    ensures { result ≡ told (L.after listener.now) heard (mentioned_sendings
         (sendings_of (map sending_view sendings.now))) }
 {
+    let mut heard = heard;
     for sending in sendings {
-        add_selector(out, &sending.selector, &sending.args)?;
+        heard = tell_selector(listener, heard, &sending.selector, sending.args.as_ref());
         if let Some(args) = &sending.args {
-            add_exprs(out, args.as_slice())?;
+            heard = tell_exprs(listener, heard, args.as_slice());
         }
     }
-    Ok(())
+    heard
+}
+
+/// A list in a box, if one is written.
+pub(crate) fn unboxed(part: &Option<Boxed<Items<Expr>>>) -> Option<&Items<Expr>>
+    ensures { option_copied result ≡ part.now }
+{
+    match part {
+        None => None,
+        Some(es) => Some(es.get()),
+    }
 }
 
 /// A list that is written or left out.
-pub(crate) fn add_part(
-    out: &mut Items<Mention>,
-    part: &Option<Boxed<Items<Expr>>>,
-) -> Result<(), AllocError>
-    ensures { OnOk result (out.new ≡ out.old ++ mentioned_part (part_view part.now)) }
+pub(crate) fn tell_part<L: Listener>(
+    listener: &L,
+    heard: L::Heard,
+    part: Option<&Items<Expr>>,
+) -> L::Heard
+    requires { L.listens listener.now }
+    ensures { result ≡ told (L.after listener.now) heard (mentioned_part
+        (part_view (option_copied part.entry))) }
 {
     match part {
-        None => Ok(()),
-        Some(es) => add_exprs(out, es.get().as_slice()),
+        None => heard,
+        Some(es) => tell_exprs(listener, heard, es.as_slice()),
     }
+}
+
+pub(crate) fn tell_variables<L: Listener>(listener: &L, heard: L::Heard, xs: &[Id]) -> L::Heard
+    requires { L.listens listener.now }
+    ensures { result ≡ told (L.after listener.now) heard (variables xs.now) }
+{
+    let mut heard = heard;
+    for x in xs {
+        heard = listener.hear(heard, variable(x));
+    }
+    heard
 }

@@ -1,63 +1,50 @@
 // Variables that are declared together: their names and their types.
 
-ghost use Rattle.std.specs.Prelude.{◌≡◌, ◌++◌, map, OnOk};
-ghost use Rattle.pz_classes_mentions.specs.Declarations.{names, types, section_names, section_types};
+ghost use Rattle.std.specs.Prelude.{◌≡◌, []};
+ghost use Rattle.std.specs.Option.{unwrap_or};
+ghost use Rattle.pz_classes_mentions.specs.Declarations.{named_types, types};
+ghost use Rattle.pz_classes_mentions.specs.Words.{told};
 
-use crate::Mention;
-use crate::adding::add_type;
+use crate::{Listener, Word};
 use pz_items::Items;
 use pz_syntax::{Id, VarGroup};
-use std::alloc::AllocError;
 
-fn push_ids(out: &mut Items<Id>, ids: &[Id]) -> Result<(), AllocError>
-    ensures { OnOk result (out.new ≡ out.old ++ ids.now) }
-{
-    for id in ids {
-        out.push(id.copy()?)?;
-    }
-    Ok(())
-}
-
-pub(crate) fn push_names(out: &mut Items<Id>, groups: &[VarGroup]) -> Result<(), AllocError>
-    ensures { OnOk result (out.new ≡ out.old ++ names groups.now) }
-{
-    for group in groups {
-        push_ids(out, group.names.as_slice())?;
-    }
-    Ok(())
-}
-
-/// Nothing where the section is not written.
-pub(crate) fn push_section_names(
-    out: &mut Items<Id>,
-    groups: &Option<Items<VarGroup>>,
-) -> Result<(), AllocError>
-    ensures { OnOk result (out.new ≡ out.old ++ section_names groups.now) }
+/// None where the section is not written.
+pub(crate) fn section(groups: &Option<Items<VarGroup>>) -> &[VarGroup]
+    ensures { result.now ≡ unwrap_or groups.now [] }
 {
     match groups {
-        None => Ok(()),
-        Some(groups) => push_names(out, groups.as_slice()),
+        None => &[],
+        Some(groups) => groups.as_slice(),
     }
 }
 
-pub(crate) fn add_types(out: &mut Items<Mention>, groups: &[VarGroup]) -> Result<(), AllocError>
-    ensures { OnOk result (out.new ≡ out.old ++ types groups.now) }
+/// The types of these variables.
+#[tactic(auto, using(crate::proofs::Told::told_append))]
+pub(crate) fn tell_types<L: Listener>(
+    listener: &L,
+    heard: L::Heard,
+    groups: &[VarGroup],
+) -> L::Heard
+    requires { L.listens listener.now }
+    ensures { result ≡ told (L.after listener.now) heard (types groups.now) }
 {
+    let mut heard = heard;
     for group in groups {
-        add_type(out, &group.kind)?;
+        heard = listener.hear(heard, Word::Typed(&group.kind));
     }
-    Ok(())
+    heard
 }
 
-/// Nothing where the section is not written.
-pub(crate) fn add_section_types(
-    out: &mut Items<Mention>,
-    groups: &Option<Items<VarGroup>>,
-) -> Result<(), AllocError>
-    ensures { OnOk result (out.new ≡ out.old ++ section_types groups.now) }
+/// Types that are named one by one.
+#[tactic(auto, using(crate::proofs::Told::told_append))]
+pub(crate) fn tell_named_types<L: Listener>(listener: &L, heard: L::Heard, kinds: &[Id]) -> L::Heard
+    requires { L.listens listener.now }
+    ensures { result ≡ told (L.after listener.now) heard (named_types kinds.now) }
 {
-    match groups {
-        None => Ok(()),
-        Some(groups) => add_types(out, groups.as_slice()),
+    let mut heard = heard;
+    for kind in kinds {
+        heard = listener.hear(heard, Word::Typed(kind));
     }
+    heard
 }

@@ -1,70 +1,74 @@
 // The instances of a cluster or of the system, and what they are given.
 
-ghost use Rattle.std.specs.Prelude.{◌≡◌, [], ◌∷◌, ◌++◌, OnOk};
+ghost use Rattle.std.specs.Prelude.{◌≡◌, []};
 ghost use Rattle.std.specs.Option.{unwrap_or};
-ghost use Rattle.pz_classes_mentions.specs.declared.mention.Mention.TheVariants as m;
 ghost use Rattle.pz_classes_mentions.specs.Declarations.{mentioned_argument, mentioned_givens, mentioned_instance, mentioned_instances};
+ghost use Rattle.pz_classes_mentions.specs.Words.{told};
 
-use crate::Mention;
-use crate::adding::add_variable;
-use crate::expressions::add_literal;
+use crate::expressions::{tell_literal, variable};
+use crate::{Listener, Word};
 use pz_items::Items;
-use pz_syntax::{Arg, Given, Id, Instance};
-use std::alloc::AllocError;
+use pz_syntax::{Arg, Given, Instance};
 
-fn add_class(out: &mut Items<Mention>, class: &Id) -> Result<(), AllocError>
-    ensures { OnOk result (out.new ≡ out.old ++ m.Instantiated class.now ∷ []) }
-{
-    out.push(Mention::Instantiated(class.copy()?))
-}
-
-fn add_argument(out: &mut Items<Mention>, arg: &Arg) -> Result<(), AllocError>
-    ensures { OnOk result (out.new ≡ out.old ++ mentioned_argument arg.now) }
+fn tell_argument<L: Listener>(listener: &L, heard: L::Heard, arg: &Arg) -> L::Heard
+    requires { L.listens listener.now }
+    ensures { result ≡ told (L.after listener.now) heard (mentioned_argument arg.now) }
 {
     match arg {
-        Arg::Plain(literal, pos) => add_literal(out, literal, *pos),
-        Arg::Negated(_, _) => Ok(()),
-        Arg::Parameter(name) => add_variable(out, name),
+        Arg::Plain(literal, pos) => tell_literal(listener, heard, literal, *pos),
+        Arg::Negated(_, _) => heard,
+        Arg::Parameter(name) => listener.hear(heard, variable(name)),
     }
 }
 
-fn add_givens(out: &mut Items<Mention>, givens: &[Given]) -> Result<(), AllocError>
-    ensures { OnOk result (out.new ≡ out.old ++ mentioned_givens givens.now) }
+#[tactic(auto, using(crate::proofs::Told::told_append))]
+fn tell_givens<L: Listener>(listener: &L, heard: L::Heard, givens: &[Given]) -> L::Heard
+    requires { L.listens listener.now }
+    ensures { result ≡ told (L.after listener.now) heard (mentioned_givens givens.now) }
 {
+    let mut heard = heard;
     for given in givens {
-        add_argument(out, &given.arg)?;
+        heard = tell_argument(listener, heard, &given.arg);
     }
-    Ok(())
+    heard
 }
 
-fn add_instance(out: &mut Items<Mention>, instance: &Instance) -> Result<(), AllocError>
-    ensures { OnOk result (out.new ≡ out.old ++ mentioned_instance instance.now) }
+#[tactic(auto, using(crate::proofs::Told::told_append))]
+fn tell_instance<L: Listener>(listener: &L, heard: L::Heard, instance: &Instance) -> L::Heard
+    requires { L.listens listener.now }
+    ensures { result ≡ told (L.after listener.now) heard (mentioned_instance instance.now) }
 {
-    add_class(out, &instance.class)?;
+    let heard = listener.hear(heard, Word::Instantiated(&instance.class));
     match &instance.given {
-        None => Ok(()),
-        Some(givens) => add_givens(out, givens.as_slice()),
+        None => heard,
+        Some(givens) => tell_givens(listener, heard, givens.as_slice()),
     }
 }
 
-fn add_each(out: &mut Items<Mention>, instances: &[Instance]) -> Result<(), AllocError>
-    ensures { OnOk result (out.new ≡ out.old ++ mentioned_instances instances.now) }
+#[tactic(auto, using(crate::proofs::Told::told_append))]
+fn tell_each<L: Listener>(listener: &L, heard: L::Heard, instances: &[Instance]) -> L::Heard
+    requires { L.listens listener.now }
+    ensures { result ≡ told (L.after listener.now) heard (mentioned_instances instances.now) }
 {
+    let mut heard = heard;
     for instance in instances {
-        add_instance(out, instance)?;
+        heard = tell_instance(listener, heard, instance);
     }
-    Ok(())
+    heard
 }
 
 /// Nothing where the section is not written.
-pub(crate) fn add_instances(
-    out: &mut Items<Mention>,
+pub(crate) fn tell_instances<L: Listener>(
+    listener: &L,
+    heard: L::Heard,
     instances: &Option<Items<Instance>>,
-) -> Result<(), AllocError>
-    ensures { OnOk result (out.new ≡ out.old ++ mentioned_instances (unwrap_or instances.now [])) }
+) -> L::Heard
+    requires { L.listens listener.now }
+    ensures { result ≡ told (L.after listener.now) heard (mentioned_instances
+        (unwrap_or instances.now [])) }
 {
     match instances {
-        None => Ok(()),
-        Some(instances) => add_each(out, instances.as_slice()),
+        None => heard,
+        Some(instances) => tell_each(listener, heard, instances.as_slice()),
     }
 }

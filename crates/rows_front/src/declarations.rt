@@ -1,17 +1,46 @@
 //! What stands in declarations: how much is mentioned in their parts, messages, instances and what
 //! they are given, and channels.
 
+ghost use Rattle.std.specs.Prelude.{◌+◌, ◌-◌, ◌^◌, min};
+
 use crate::reading::model_in;
 use pz_classes::{channels_of, instances_of};
-use pz_classes_mentions::{LocalScope, parts_of};
+use pz_classes_mentions::{Listener, Part, Word, parts_of};
 use pz_items::Items;
-use pz_syntax::{Arg, Channel, ChannelEnd, Decl, Given, Id, Instance, Message, Model};
+use pz_syntax::{Arg, Channel, ChannelEnd, Decl, Given, Id, Instance, Message, Model, VarGroup};
 use std::io;
 
-fn show_parts(rt: &HostRuntime, parts: &[LocalScope]) -> io::Result<()> {
+/// Counts the words that it is told.
+#[derive(Drop)]
+struct Counter;
+
+impl Listener for Counter {
+    type Heard = usize;
+
+    ghost listens = { λ c. Unit };
+
+    ghost after = { λ c count word. min (count + 1) (2 ^ 64 - 1) };
+
+    fn hear(&self, heard: usize, _: Word) -> usize {
+        heard.saturating_add(1)
+    }
+}
+
+fn count_names(groups: &[VarGroup]) -> usize {
+    let mut count: usize = 0;
+    for group in groups {
+        count = count.saturating_add(group.names.len());
+    }
+    count
+}
+
+fn show_parts(rt: &HostRuntime, parts: &[Part]) -> io::Result<()> {
     for part in parts {
-        let locals = part.locals.len();
-        let mentions = part.mentions.len();
+        let declared = part.locals();
+        let locals = count_names(declared.inputs)
+            .saturating_add(count_names(declared.outputs))
+            .saturating_add(count_names(declared.others));
+        let mentions = part.tell(&Counter, 0);
         println!(rt; "  part: {locals} locals, {mentions} mentions")?;
     }
     Ok(())

@@ -8,4 +8,4 @@ use Rattle.pz_check_duplicates.proofs.repeats.least_local.Goals as goal
 pub loop-part-preserved : goal.loop-part-preserved
 loop-part-preserved c =
     flat_step of_part _ c.part-item.result _ _ c.loop-part.least _ _ c.loop-part-test.true c.part-item.is (omega arith)
-    (c.in_ok-least.ensures ∙ ap (λ (ids : List Id). least_from c.loop-part.least (of_names ids)) c.as_slice.ensures) c.loop-part.invariant
+    (c.in_ok-least.ensures ∙ ap (λ (ids : List Id). least_from c.loop-part.least (of_names ids)) c.locals.ensures) c.loop-part.invariant
