@@ -1,10 +1,11 @@
 -- Two processes act together: what their trees, and all, are afterwards.
 use Rattle.std.proofs.Common.{◌≡◌, ◌≢◌, ◌≤◌, ◌<◌, ◌+◌, ◌*◌, ℕ, List, set, length, Some, Result, Ok, Err, sym, subst, ap, ◌∙◌}
-use Rattle.std.specs.Prelude.{slice_get, ⊤}
+use Rattle.std.specs.Prelude.{slice_get, ⊤, IfOk, OnOk, OnErr}
 use Rattle.std.proofs.Math.Logic.{∥∥₁_elim, ∥∥₁_map, ∥∥₁_map₂}
 use Rattle.std.proofs.lemmas.List.{set_comm}
 use Rattle.std.proofs.lemmas.Option.{same_Some, slice_get_within}
 use Rattle.std.specs.Coded.{le_prop}
+use Rattle.std.specs.declared.alloc.AllocError.{AllocError}
 use Rattle.pz_bind.specs.Nest.{class_at}
 use Rattle.pz_classes.specs.Soundness.{IsSound}
 use Rattle.pz_copy.specs.Parcels.{ParcelView}
@@ -28,7 +29,7 @@ use Rattle.pz_tree.specs.declared.tree.Tree.{Tree}
 use Rattle.pz_tree.specs.Trees.{IsFresh, at_in, term_in, process_in}
 use Rattle.pz_sim.specs.Costs.{ActsSoon}
 use Rattle.pz_sim.specs.Members.{member_of, members_of}
-use Rattle.pz_sim.specs.devices.Acting.{MayAct, MayActAt, CanDoAt, IsAfter, HasActed, HasActedSoon, HasTried}
+use Rattle.pz_sim.specs.devices.Acting.{MayAct, MayActAt, CanDoAt, IsAfter, HasActed, HasActedSoon, HasTried, reached}
 use Rattle.pz_sim.specs.devices.Holding.{AreTrees}
 use Rattle.pz_sim.proofs.Heard.{set_other}
 use Rattle.pz_sim.proofs.Acted.{becomes, member_is, may_there, acts_so, trees_reached, after_clock}
@@ -242,7 +243,7 @@ module _ (acts : MembersAct) (leads : CommunicationLeadsOn) (ends : SenderTroubl
       old_sender : (left : Result ⊤ Trouble) (h : Handed vs us left) → slice_get ts sender.process ≡ Some h.old
       old_sender left h = sym (same_sender vs z.new z.now) ∙ h.is
 
-      pub never_then : (trouble : Trouble) → Handed vs us (Err trouble) → ⊥
+      never_then : (trouble : Trouble) → Handed vs us (Err trouble) → ⊥
       never_then trouble h =
           ∥∥₁_elim are (λ a b. absurd a) (λ k. ∥∥₁_elim pair (λ a b. absurd a) (λ p. ∥∥₁_elim (z.leaves parcel (may_take k p z.old z.is)) (λ a b. absurd a) (λ taken.
           ∥∥₁_elim (h.leaves parcel (may_hand k p h.old (old_sender (Err trouble) h))) (λ a b. absurd a) (λ fails.
@@ -254,24 +255,24 @@ module _ (acts : MembersAct) (leads : CommunicationLeadsOn) (ends : SenderTroubl
         both_now : us ≡ set (set ts receiver.process z.new) sender.process h.new
         both_now = h.now ∙ ap (λ (xs : List Tree). set xs sender.process h.new) z.now
 
-        pub leads_then : ∥ Leads (Ok (config_of clock (members_of setting.model us))) ∥₁
+        leads_then : ∥ Leads (Ok (config_of clock (members_of setting.model us))) ∥₁
         leads_then =
             ∥∥₁_elim are squash₁ (λ k. ∥∥₁_elim pair squash₁ (λ p. ∥∥₁_elim (z.leaves parcel (may_take k p z.old z.is)) squash₁ (λ taken.
             ∥∥₁_map (h.leaves parcel (may_hand k p h.old (old_sender (Ok o) h))) (λ sent.
             leads_both h.old z.old (old_sender (Ok o) h) z.is k h.new z.new us both_now apart h.after z.after sent taken))))
 
-        pub after_then : MembersStay → StaysFit → LowStays → IsSound setting.model → ∥ AreTrees setting clock us ∥₁
+        after_then : MembersStay → StaysFit → LowStays → IsSound setting.model → ∥ AreTrees setting clock us ∥₁
         after_then stay fits lows sound =
             ∥∥₁_elim are squash₁ (λ k. ∥∥₁_elim pair squash₁ (λ p. ∥∥₁_elim (z.leaves parcel (may_take k p z.old z.is)) squash₁ (λ taken.
             ∥∥₁_elim (h.leaves parcel (may_hand k p h.old (old_sender (Ok o) h))) squash₁ (λ sent.
             ∥∥₁_elim h.after.fresh squash₁ (λ s_fresh. ∥∥₁_map z.after.fresh (λ r_fresh.
             after_both h.old z.old (old_sender (Ok o) h) z.is k h.new z.new us both_now apart h.after z.after stay fits lows sound s_fresh r_fresh sent taken))))))
 
-        pub others_then : (u v : Tree) × (us ≡ set (set ts receiver.process v) sender.process u)
+        others_then : (u v : Tree) × (us ≡ set (set ts receiver.process v) sender.process u)
         others_then = (h.new, z.new, both_now)
 
         -- in few steps
-        pub soon_then : (begun tried taken ended : ℕ)
+        soon_then : (begun tried taken ended : ℕ)
             → ((t : Tree) → slice_get ts sender.process ≡ Some t → (x : ParcelView) → MayAct setting.model clock (CanSend x) t sender.place → tried ≤ begun + 5 * on_way (term_in t) sender.place)
             → ((t u : Tree) → slice_get ts receiver.process ≡ Some t → slice_get vs receiver.process ≡ Some u → (x : ParcelView) → MayAct setting.model clock CanReceive t receiver.place
             → ∥ HasActedSoon setting.model (λ a f. Takes a f parcel) t u receiver.place tried taken ∥₁)
@@ -287,3 +288,37 @@ module _ (acts : MembersAct) (leads : CommunicationLeadsOn) (ends : SenderTroubl
             let still : slice_get us receiver.process ≡ Some z.new = ap (λ (xs : List Tree). slice_get xs receiver.process) h.now ∙ set_other vs sender.process receiver.process h.new apart ∙ v_is in
             ∥∥₁_map₂ (second z.old z.new z.is v_is parcel (may_take k p z.old z.is)) (third h.old h.new h.is u_is parcel hands) (λ x y.
             both_soon setting.model ts us wire sender receiver message parcel h.old h.new z.old z.new begun tried taken ended s_is u_is z.is still (first h.old s_is parcel hands) x y)))
+
+      -- So it is with whatever act of the sender: where memory does not run out, it has no trouble.
+
+      pub leads_all : (r : Result (Result ⊤ Trouble) AllocError) → IfOk r (Handed vs us) → IfOk r (λ left. ∥ Leads (reached setting.model clock us left) ∥₁)
+      leads_all (Err e) h = tt
+      leads_all (Ok (Err trouble)) h = absurd (never_then trouble h)
+      leads_all (Ok (Ok o)) h = leads_then o h
+
+      pub after_all : MembersStay → StaysFit → LowStays → IsSound setting.model → (r : Result (Result ⊤ Trouble) AllocError) → IfOk r (Handed vs us) → IfOk r (λ left. OnOk left (∥ AreTrees setting clock us ∥₁))
+      after_all stay fits lows sound (Err e) h = tt
+      after_all stay fits lows sound (Ok (Err trouble)) h = tt
+      after_all stay fits lows sound (Ok (Ok o)) h = after_then o h stay fits lows sound
+
+      pub others_all : (r : Result (Result ⊤ Trouble) AllocError) → IfOk r (Handed vs us) → IfOk r (λ left. OnOk left ((u v : Tree) × (us ≡ set (set ts receiver.process v) sender.process u)))
+      others_all (Err e) h = tt
+      others_all (Ok (Err trouble)) h = tt
+      others_all (Ok (Ok o)) h = others_then o h
+
+      pub stays_all : (r : Result (Result ⊤ Trouble) AllocError) → IfOk r (Handed vs us) → IfOk r (λ left. OnErr left (us ≡ ts))
+      stays_all (Err e) h = tt
+      stays_all (Ok (Err trouble)) h = absurd (never_then trouble h)
+      stays_all (Ok (Ok o)) h = tt
+
+      pub soon_all : (begun tried taken ended : ℕ)
+          → ((t : Tree) → slice_get ts sender.process ≡ Some t → (x : ParcelView) → MayAct setting.model clock (CanSend x) t sender.place → tried ≤ begun + 5 * on_way (term_in t) sender.place)
+          → ((t u : Tree) → slice_get ts receiver.process ≡ Some t → slice_get vs receiver.process ≡ Some u → (x : ParcelView) → MayAct setting.model clock CanReceive t receiver.place
+          → ∥ HasActedSoon setting.model (λ a f. Takes a f parcel) t u receiver.place tried taken ∥₁)
+          → (r : Result (Result ⊤ Trouble) AllocError) → IfOk r (Handed vs us)
+          → ((t u : Tree) → slice_get vs sender.process ≡ Some t → slice_get us sender.process ≡ Some u → (x : ParcelView) → MayAct setting.model clock (CanSend x) t sender.place
+          → IfOk r (λ left. OnOk left (∥ HasActedSoon setting.model (λ a f. Hands a f x) t u sender.place taken ended ∥₁)))
+          → IfOk r (λ left. OnOk left (∥ ActsSoon setting.model ts us (Comm wire sender receiver message parcel) 0 begun ended ∥₁))
+      soon_all begun tried taken ended first second (Err e) h third = tt
+      soon_all begun tried taken ended first second (Ok (Err trouble)) h third = tt
+      soon_all begun tried taken ended first second (Ok (Ok o)) h third = soon_then o h begun tried taken ended first second third

@@ -1,6 +1,6 @@
 // A process acts, and what is kept of it is told anew.
 
-ghost use Rattle.std.specs.Prelude.{◌≡◌, ◌≤◌, ◌<◌, ◌+◌, ◌*◌, not, List, Some, filter, length, slice_get, slice_set, IfOk, OnOk, OnErr};
+ghost use Rattle.std.specs.Prelude.{◌≡◌, ◌≤◌, ◌<◌, ◌+◌, ◌*◌, ℕ, ⊤, not, List, Some, Ok, filter, length, slice_get, slice_set, IfOk, OnOk, OnErr};
 ghost use Rattle.pz_classes.specs.CheckedView.{checked_model};
 ghost use Rattle.pz_syntax.specs.declared.tokens.Pos.{Pos};
 ghost use Rattle.pz_copy.specs.Parcels.{ParcelView};
@@ -146,6 +146,49 @@ fn act_at<L: Ledger>(
     act_in(scene, trees, at, How::Internal, steps)
 }
 
+// The receiver of a pair takes what its sender offers, and then the sender hands it over, which was tried and has no
+// trouble. At a trouble of the receiver the trees are as before. The only error is want of memory.
+fn exchange_tried<L: Ledger>(
+    scene: Scene<'_>,
+    trees: &mut [Tree],
+    sender: &Sender,
+    receiver: &End,
+    steps: &mut Steps<L>,
+) -> Result<Result<(), Trouble>, AllocError>
+    requires rounds { scene.limits.edition ≡ Two → NoRounds (model_at scene) }
+    requires trees { ∥ AreTrees (setting_at scene) scene.clock trees.old ∥₁ }
+    requires pair { ∥ IsPair (setting_at scene) (config_at scene trees.old) sender.now.wire
+        sender.now.end receiver.now sender.now.message sender.now.parcel ∥₁ }
+    requires tried { (x : ⊤) × HasTried (model_at scene) scene.clock sender.now.end trees.old
+        (Ok x) }
+    ensures leads { IfOk result (λ left. ∥ Next (setting_at scene.entry)
+        (config_at scene.entry trees.old) (communicated sender.now receiver.now)
+        (reached (model_at scene.entry) scene.entry.clock trees.new left) ∥₁) }
+    ensures after { IfOk result (λ left. OnOk left
+        (∥ AreTrees (setting_at scene.entry) scene.entry.clock trees.new ∥₁)) }
+    ensures others { IfOk result (λ left. OnOk left ((u v : Tree) × (trees.new ≡ slice_set
+        (slice_set trees.old receiver.now.process v) sender.now.end.process u))) }
+    ensures unchanged { IfOk result (λ left. OnErr left (trees.new ≡ trees.old)) }
+    ensures ticks { (begun : ℕ) → ((t : Tree) →
+        slice_get trees.old sender.now.end.process ≡ Some t → (parcel : ParcelView) →
+        MayAct (model_at scene.entry) scene.entry.clock (CanSend parcel) t sender.now.end.place →
+        steps.old ≤ begun + 5 * on_way (term_in t) sender.now.end.place) →
+        IfOk result (λ left. OnOk left (∥ ActsSoon (model_at scene.entry) trees.old trees.new
+        (communicated sender.now receiver.now) 0 begun steps.new ∥₁)) }
+{
+    pz_sim_laws::laws::steps_lead_on();
+    pz_rules::laws::what_fits_goes_on();
+    pz_rules::laws::low_terms_stay();
+    pz_rules::laws::one_next();
+    let _model = scene.checked.model();
+    let how = How::Receive(&sender.parcel);
+    let taken = act_in(scene, trees, receiver, how, steps)?;
+    match taken {
+        Err(trouble) => Ok(Err(trouble)),
+        Ok(()) => act_in(scene, trees, &sender.end, How::Send, steps),
+    }
+}
+
 // The sender of a pair hands over what it offers, and the receiver takes it. Whether the sender can do so is tried first,
 // so that a trouble of either leaves the trees as they are. The only error is want of memory.
 fn exchange<L: Ledger>(
@@ -171,27 +214,11 @@ fn exchange<L: Ledger>(
         trees.new (communicated sender.now receiver.now) 0 steps.old steps.new ∥₁)) }
 {
     pz_sim_laws::laws::steps_lead_on();
-    pz_rules::laws::what_fits_goes_on();
-    pz_rules::laws::low_terms_stay();
     pz_rules::laws::one_next();
-    let _model = scene.checked.model();
     let tried = try_send(scene, trees, &sender.end, steps)?;
     match tried {
         Err(trouble) => Ok(Err(trouble)),
-        Ok(()) => {
-            let how = How::Receive(&sender.parcel);
-            let taken = act_in(scene, trees, receiver, how, steps)?;
-            match taken {
-                Err(trouble) => Ok(Err(trouble)),
-                Ok(()) => {
-                    let sent = act_in(scene, trees, &sender.end, How::Send, steps)?;
-                    match sent {
-                        Err(_) => unreachable!(),
-                        Ok(()) => Ok(Ok(())),
-                    }
-                }
-            }
-        }
+        Ok(()) => exchange_tried(scene, trees, sender, receiver, steps),
     }
 }
 
@@ -274,7 +301,8 @@ pub(crate) fn act_alone<L: Ledger>(
     }
 }
 
-// The sender of a pair hands over what it offers, and the receiver takes it; what is kept of both is told anew. At a
+// The sender of a pair hands over what it offers, and the receiver takes it; what is kept of both is told anew. Until the
+// receiver has been told of, the sender is silent in the table, so that no question names a receive that is gone. At a
 // trouble of either the trees are as before. The only error is want of memory.
 pub(crate) fn hand_over<L: Ledger>(
     scene: Scene<'_>,
@@ -308,15 +336,6 @@ pub(crate) fn hand_over<L: Ledger>(
         trees,
         pairs,
         sender.end.process,
-        steps,
-    )?;
-    silence(
-        scene.alloc,
-        scene.checked,
-        scene.clock,
-        trees,
-        pairs,
-        receiver.process,
         steps,
     )?;
     let left = exchange(scene, trees, sender, receiver, steps)?;
