@@ -1,5 +1,5 @@
 -- One process has acted, and is told of anew.
-use Rattle.std.proofs.Common.{◌≡◌, ◌<◌, ℕ, List, map, set, get_or, length, Some, Result, sym, subst, ap, ◌∙◌, arith}
+use Rattle.std.proofs.Common.{◌≡◌, ◌<◌, ◌⊎◌, inl, inr, ℕ, List, map, set, get_or, length, Some, Result, sym, subst, ap, ◌∙◌, arith}
 use Rattle.std.specs.Prelude.{slice_get, Bool, ⊤}
 use Rattle.std.proofs.Math.Logic.{∥∥₁_elim, ∥∥₁_map}
 use Rattle.std.proofs.lemmas.Option.{slice_get_within, get_or_from_slice_get}
@@ -11,6 +11,7 @@ use Rattle.pz_offer.specs.declared.end.End.{End}
 use Rattle.pz_offer.specs.declared.trouble.Trouble.{Trouble}
 use Rattle.pz_rules.specs.declared.action.Action.{Action}
 use Rattle.pz_rules.specs.Settings.{Setting}
+use Rattle.pz_rules.specs.Terms.{done}
 use Rattle.pz_rules.specs.Steps.{Next}
 use Rattle.pz_sim_totals.specs.declared.total.Total.{Total}
 use Rattle.pz_sim_laws.specs.Members.{Member, config_of}
@@ -24,9 +25,10 @@ use Rattle.pz_tree.specs.Trees.{IsFresh, at_in, term_in}
 use Rattle.pz_sim.specs.Members.{member_of, members_of}
 use Rattle.pz_sim.specs.devices.Acting.{AreTold, CanDoAt, reached}
 use Rattle.pz_sim.specs.devices.Holding.{AreTrees}
-use Rattle.pz_sim.specs.devices.Tables.{hushed, IsTable, AreHeard, AreHeardBut, CanBeSilent, CanTell}
+use Rattle.pz_sim.specs.devices.Tables.{hushed, IsTable, IsHeard, AreHeard, AreHeardBut, CanBeSilent, CanTell}
+use Rattle.pz_sim.proofs.Heard.{set_other}
 use Rattle.pz_sim.proofs.Acted.{tree_fits}
-use Rattle.pz_sim.proofs.Replaced.{got_mapped, got_set, all_at, members_replaced, totals_replaced, all_heard, heard_besides}
+use Rattle.pz_sim.proofs.Replaced.{got_mapped, got_set, all_at, members_replaced, totals_replaced, all_heard}
 
 module _ (setting : Setting) (clock : ℕ) (ts : List Tree) (totals : List Total) (table : Table) where
   pub can_be_silent : (i : ℕ) → AreTold setting clock ts totals table → i < length ts → CanBeSilent i table
@@ -51,7 +53,17 @@ module _ (setting : Setting) (clock : ℕ) (ts : List Tree) (totals : List Total
 
     -- the others are as they were
     pub heard_others : AreTold setting clock ts totals table → AreHeardBut setting.model clock us i (members_of setting.model ts)
-    heard_others k = subst (λ (vs : List Tree). AreHeardBut setting.model clock vs i (members_of setting.model ts)) (sym now) (heard_besides setting.model clock ts (members_of setting.model ts) i u (heard_told k))
+    heard_others k j h apart there = by (heard_told k j h there)
+      where
+        by : (h.term ≡ done) ⊎ IsHeard setting.model clock ts j h → (h.term ≡ done) ⊎ IsHeard setting.model clock us j h
+        by (inl silent) = inl silent
+        by (inr one) = inr (record {
+          tree = one.tree;
+          is = ap (λ (vs : List Tree). slice_get vs j) now ∙ set_other ts i j u apart ∙ one.is;
+          fresh = one.fresh;
+          same_clock = one.same_clock;
+          same = one.same;
+        })
 
     pub can_tell : AreTold setting clock ts totals table → AreTrees setting clock us → CanTell setting.model clock us table i
     can_tell k after = record {

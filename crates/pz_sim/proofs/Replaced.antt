@@ -15,7 +15,7 @@ use Rattle.pz_tree.specs.Trees.{IsFresh, term_in, process_in}
 use Rattle.pz_tree_standing.specs.Frames.{FramesStand}
 use Rattle.pz_sim.specs.Members.{member_of, members_of}
 use Rattle.pz_sim.specs.devices.Holding.{AreTrees}
-use Rattle.pz_sim.specs.devices.Tables.{hushed, IsHeard, AreHeard, AreHeardBut}
+use Rattle.pz_sim.specs.devices.Tables.{hushed, IsHeard, AreHeard}
 use Rattle.pz_sim.proofs.Heard.{same_or_apart, set_same, set_other}
 
 -- what stands at a place of a list that is seen in another way
@@ -47,12 +47,12 @@ module _ (m : ModelTree) where
   pub totals_replaced : (clock : ℕ) (ts : List Tree) (i : ℕ) (u : Tree) → map (total_of clock) (members_of m (set ts i u)) ≡ set (map (total_of clock) (members_of m ts)) i (total_of clock (member_of m u))
   totals_replaced clock ts i u = ap (map (total_of clock)) (members_replaced ts i u) ∙ map-set (total_of clock) (members_of m ts) i (member_of m u)
 
-  -- one that was silent meanwhile speaks, after another has
-  pub both_spoken : (ts : List Tree) (i j : ℕ) (h : Member) (u v : Tree) → i ≢ j
-      → set (set (set (members_of m ts) i h) j (member_of m v)) i (member_of m u) ≡ members_of m (set (set ts j v) i u)
-  both_spoken ts i j h u v apart =
+  -- two that were silent meanwhile, of which the second speaks first
+  pub both_spoken : (ts : List Tree) (i j : ℕ) (h k : Member) (u v : Tree) → i ≢ j
+      → set (set (set (set (members_of m ts) i h) j k) j (member_of m v)) i (member_of m u) ≡ members_of m (set (set ts j v) i u)
+  both_spoken ts i j h k u v apart =
       let ms = members_of m ts in
-      ap (λ (xs : List Member). set xs i (member_of m u)) (set_comm ms i j h (member_of m v) apart)
+      ap (λ (xs : List Member). set xs i (member_of m u)) (set-set (set ms i h) j k (member_of m v) ∙ set_comm ms i j h (member_of m v) apart)
       ∙ set-set (set ms j (member_of m v)) i h (member_of m u)
       ∙ ap (λ (xs : List Member). set xs i (member_of m u)) (sym (members_replaced ts j v))
       ∙ sym (members_replaced (set ts j v) i u)
@@ -79,14 +79,6 @@ module _ (m : ModelTree) where
         by : (j : ℕ) (x : Member) → slice_get (set hs i (hushed h)) j ≡ Some x → (i ≡ j) ⊎ (i ≢ j) → (x.term ≡ done) ⊎ (slice_get (set ts i u) j ≡ slice_get ts j)
         by j x there (inl same) = inl (ap (λ (y : Member). y.term) (set_same hs i (hushed h) x (ap (slice_get (set hs i (hushed h))) same ∙ there)))
         by j x there (inr apart) = inr (set_other ts i j u apart)
-
-    -- one tree may be another, and the others are heard
-    pub heard_besides : (ts : List Tree) (hs : List Member) (i : ℕ) (u : Tree) → AreHeard m clock ts hs → AreHeardBut m clock (set ts i u) i hs
-    heard_besides ts hs i u heard j h apart there = by (heard j h there)
-      where
-        by : (h.term ≡ done) ⊎ IsHeard m clock ts j h → (h.term ≡ done) ⊎ IsHeard m clock (set ts i u) j h
-        by (inl silent) = inl silent
-        by (inr one) = inr (record { tree = one.tree; is = set_other ts i j u apart ∙ one.is; fresh = one.fresh; same_clock = one.same_clock; same = one.same })
 
 module _ (setting : Setting) (clock : ℕ) where
   -- what is so of trees one by one: all but that each term fits and is not too high

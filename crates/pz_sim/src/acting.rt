@@ -301,8 +301,7 @@ pub(crate) fn act_alone<L: Ledger>(
     }
 }
 
-// The sender of a pair hands over what it offers, and the receiver takes it; what is kept of both is told anew. Until the
-// receiver has been told of, the sender is silent in the table, so that no question names a receive that is gone. At a
+// The sender of a pair hands over what it offers, and the receiver takes it; what is kept of both is told anew. At a
 // trouble of either the trees are as before. The only error is want of memory.
 pub(crate) fn hand_over<L: Ledger>(
     scene: Scene<'_>,
@@ -336,6 +335,15 @@ pub(crate) fn hand_over<L: Ledger>(
         trees,
         pairs,
         sender.end.process,
+        steps,
+    )?;
+    silence(
+        scene.alloc,
+        scene.checked,
+        scene.clock,
+        trees,
+        pairs,
+        receiver.process,
         steps,
     )?;
     let left = exchange(scene, trees, sender, receiver, steps)?;
