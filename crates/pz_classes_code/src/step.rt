@@ -1,7 +1,7 @@
 ghost use Rattle.std.specs.Prelude.{◌≡◌, IfOk};
 
 use crate::{Code, Slot};
-use pz_items::{Items, Shared};
+use pz_items::{Boxed, Items, Shared};
 use pz_syntax::{Id, Pos};
 use std::alloc::AllocError;
 
@@ -36,7 +36,8 @@ impl Step {
 }
 
 /// The forms of statements, as in the syntax, but for `Eval`: an assignment, or an expression that
-/// is a statement. Parts that what is left of a process holds by itself are shared too.
+/// is a statement. Parts that what is left of a process holds by itself are shared too. The block of a
+/// receive is in a box so that a form takes 56 bytes, since a text may have one for each three bytes.
 #[cycle(step)]
 #[derive(Drop)]
 pub enum StepForm {
@@ -63,7 +64,7 @@ pub enum StepForm {
         name: Shared<Id>,
         into: Option<Shared<Items<Slot>>>,
         condition: Option<Shared<Code>>,
-        block: Option<Shared<Items<Code>>>,
+        block: Boxed<Option<Shared<Items<Code>>>>,
     },
     Call {
         method: Shared<Id>,

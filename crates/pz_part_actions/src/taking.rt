@@ -21,7 +21,7 @@ use crate::evaluating::run_part;
 use pz_classes_code::{Code, Slot, StepForm};
 use pz_copy::{Parcel, UnpackError, unpack};
 use pz_eval_binding::set_slots;
-use pz_items::{Items, Shared};
+use pz_items::{Boxed, Items, Shared};
 use pz_offer::Trouble;
 use pz_part_queries::Standpoint;
 use pz_rules::Term;
@@ -49,7 +49,7 @@ fn bind(
     pos: Pos,
     into: &[Slot],
     values: Vec<Value>,
-    block: &Option<Shared<Items<Code>>>,
+    block: &Boxed<Option<Shared<Items<Code>>>>,
 ) -> Result<Result<(), Trouble>, AllocError>
     requires known { AreKnown here.now.classes.now }
     requires within { All (RefersWithin (length state.old.held.objects)) values.items }
@@ -60,7 +60,7 @@ fn bind(
     ensures marks { OnOk result (state.new.marks ≡ state.old.marks) }
 {
     set_slots(state, frame, into, values)?;
-    run_part(alloc, here, state, frame, pos, block)
+    run_part(alloc, here, state, frame, pos, block.get())
 }
 
 /// A receive: the parcel is unpacked and bound, then the block is evaluated.
@@ -71,7 +71,7 @@ fn receive(
     frame: FrameId,
     pos: Pos,
     into: &Option<Shared<Items<Slot>>>,
-    block: &Option<Shared<Items<Code>>>,
+    block: &Boxed<Option<Shared<Items<Code>>>>,
     parcel: &Parcel,
 ) -> Result<Result<(), Trouble>, AllocError>
     requires { AreKnown here.now.classes.now }

@@ -187,7 +187,7 @@ fn resolve_receive(
         name: share_name(alloc, name)?,
         into: resolve_into(alloc, scope, into)?,
         condition: resolve_condition(alloc, scope, condition)?,
-        block: share_part(alloc, scope, block)?,
+        block: Boxed::new(alloc, share_part(alloc, scope, block)?)?,
     })
 }
 

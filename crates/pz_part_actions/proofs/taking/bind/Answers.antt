@@ -10,4 +10,4 @@ use Rattle.pz_part_actions.proofs.taking.bind.Goals as goal
 pub returns-clause-runs : goal.returns-clause-runs
 returns-clause-runs c = λ m class known.
     subst (λ (s : StateView). IfOk c.run_part.result (λ end. Ran (seen_from m c.args.here.now class s) c.args.frame.0 c.args.pos (part_view c.args.block.now) end c.run_part.new.state.held))
-    (ap (λ (t : Seen). t.held) c.in_ok-set_slots.ensures.ok) (c.run_part.ensures.runs m class known)
+    (ap (λ (t : Seen). t.held) c.in_ok-set_slots.ensures.ok) (rw (← c.get.ensures) (c.run_part.ensures.runs m class known))
