@@ -65,7 +65,7 @@ impl Scope<'_> {
     pub fn slots(&self, alloc: Global, ids: &[Id]) -> Result<Items<Slot>, AllocError>
         ensures { IfOk result (λ slots. slots ≡ spec.slots_of (scope_view self.now) ids.now) }
     {
-        let mut slots = Items::new(alloc);
+        let mut slots = Items::with_capacity(alloc, ids.len())?;
         for id in ids {
             slots.push(self.slot(&id.name))?;
         }

@@ -30,6 +30,15 @@ impl<T> Items<T> {
         }
     }
 
+    /// No elements yet, and room for so many. The only error is want of memory.
+    pub fn with_capacity(alloc: Global, capacity: usize) -> Result<Items<T>, AllocError>
+        ensures { IfOk result (λ it. it ≡ []) }
+    {
+        Ok(Items {
+            items: Vec::with_capacity(alloc, capacity)?,
+        })
+    }
+
     /// The elements of a `Vec`. Takes no memory.
     pub fn from_vec(items: Vec<T>) -> Items<T>
         ensures { result ≡ items.items }

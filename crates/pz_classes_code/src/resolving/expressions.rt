@@ -99,7 +99,7 @@ pub fn resolve_list(alloc: Global, scope: &Scope, list: &[Expr]) -> Result<Items
     ensures { IfOk result (λ cs. code.list_view cs ≡ resolved_all (scope_view scope.now)
         (tree.list_view list.now)) }
 {
-    let mut codes = Items::new(alloc);
+    let mut codes = Items::with_capacity(alloc, list.len())?;
     for expr in list {
         codes.push(resolve(alloc, scope, expr)?)?;
     }
@@ -115,7 +115,7 @@ fn resolve_links(
     ensures { IfOk result (λ ls. code.links_of (map code.link_view ls) ≡ resolved_links
         (scope_view scope.now) (tree.links_of (map tree.link_view links.now))) }
 {
-    let mut codes = Items::new(alloc);
+    let mut codes = Items::with_capacity(alloc, links.len())?;
     for link in links {
         codes.push(CodeLink {
             op: link.op,
@@ -135,7 +135,7 @@ fn resolve_sendings(
     ensures { IfOk result (λ ss. code.sendings_of (map code.sending_view ss) ≡ resolved_sendings
         (scope_view scope.now) (tree.sendings_of (map tree.sending_view sendings.now))) }
 {
-    let mut codes = Items::new(alloc);
+    let mut codes = Items::with_capacity(alloc, sendings.len())?;
     for sending in sendings {
         codes.push(resolve_sending(alloc, scope, sending)?)?;
     }

@@ -280,7 +280,7 @@ pub fn resolve_statements(
     ensures { IfOk result (λ ss. step.sequence_view ss ≡ resolved_statements (scope_view scope.now)
         (tree.sequence_view list.now)) }
 {
-    let mut steps = Items::new(alloc);
+    let mut steps = Items::with_capacity(alloc, list.len())?;
     for stmt in list {
         steps.push(resolve_statement(alloc, scope, stmt)?)?;
     }
@@ -296,9 +296,9 @@ fn resolve_branches(
     ensures { IfOk result (λ bs. step.branches_of (map (map step.view) bs) ≡ resolved_branches
         (scope_view scope.now) (tree.branches_of (map (map tree.view) branches.now))) }
 {
-    let mut steps = Items::new(alloc);
+    let mut steps = Items::with_capacity(alloc, branches.len())?;
     for branch in branches {
-        let mut part = Items::new(alloc);
+        let mut part = Items::with_capacity(alloc, branch.len())?;
         for stmt in branch.as_slice() {
             part.push(resolve_statement(alloc, scope, stmt)?)?;
         }
