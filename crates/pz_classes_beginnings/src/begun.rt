@@ -30,7 +30,7 @@ fn add_begun_by(out: &mut Items<Id>, statement: &Stmt) -> Result<(), AllocError>
             method,
             args,
             results,
-        } => add_call(out, method, args.as_slice(), results.get().as_slice()),
+        } => add_call(out, method.get(), args.as_slice(), results.get().as_slice()),
         StmtForm::If(_, _, _) => Ok(()),
         StmtForm::While(_, _) => Ok(()),
         StmtForm::Skip => Ok(()),

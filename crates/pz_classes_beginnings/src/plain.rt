@@ -55,7 +55,7 @@ fn add_plain_calls_of(out: &mut Items<Id>, statement: &Stmt) -> Result<(), Alloc
             method,
             args,
             results,
-        } => add_call(out, method, args.as_slice(), results.get().as_slice()),
+        } => add_call(out, method.get(), args.as_slice(), results.get().as_slice()),
         StmtForm::Skip => Ok(()),
         StmtForm::Delay(_) => Ok(()),
         StmtForm::Block(_) => Ok(()),

@@ -28,13 +28,13 @@ fn tell_statement<L: Listener>(listener: &L, heard: L::Heard, statement: &Stmt) 
         StmtForm::Group(body) => tell_statements(listener, heard, body.as_slice()),
         StmtForm::Block(es) => tell_exprs(listener, heard, es.as_slice()),
         StmtForm::Guard(test, body) => {
-            let heard = tell_expr(listener, heard, test);
+            let heard = tell_expr(listener, heard, test.get());
             tell_statement(listener, heard, body.get())
         }
         StmtForm::Par(branches) => tell_branches(listener, heard, branches.as_slice()),
         StmtForm::Sel(branches) => tell_branches(listener, heard, branches.as_slice()),
         StmtForm::If(test, body, other) => {
-            let heard = tell_expr(listener, heard, test);
+            let heard = tell_expr(listener, heard, test.get());
             let heard = tell_statements(listener, heard, body.get().as_slice());
             match other {
                 None => heard,
@@ -42,7 +42,7 @@ fn tell_statement<L: Listener>(listener: &L, heard: L::Heard, statement: &Stmt) 
             }
         }
         StmtForm::While(test, body) => {
-            let heard = tell_expr(listener, heard, test);
+            let heard = tell_expr(listener, heard, test.get());
             tell_statements(listener, heard, body.as_slice())
         }
         StmtForm::Abort(body, other) => {
@@ -58,7 +58,7 @@ fn tell_statement<L: Listener>(listener: &L, heard: L::Heard, statement: &Stmt) 
             name,
             args,
             block,
-        } => tell_send(listener, heard, port.get(), name.get(), args, block),
+        } => tell_send(listener, heard, port.get(), name.get(), args, block.get()),
         StmtForm::Receive {
             port,
             name,
@@ -66,9 +66,9 @@ fn tell_statement<L: Listener>(listener: &L, heard: L::Heard, statement: &Stmt) 
             condition,
             block,
         } => {
-            let heard = tell_received(listener, heard, port.get(), name.get(), into);
-            let heard = tell_condition(listener, heard, condition);
-            tell_part(listener, heard, unboxed(block))
+            let heard = tell_received(listener, heard, port.get(), name.get(), into.get());
+            let heard = tell_condition(listener, heard, condition.get());
+            tell_part(listener, heard, unboxed(block.get()))
         }
         StmtForm::Call {
             method,
@@ -77,13 +77,13 @@ fn tell_statement<L: Listener>(listener: &L, heard: L::Heard, statement: &Stmt) 
         } => tell_call(
             listener,
             heard,
-            method,
+            method.get(),
             args.as_slice(),
             results.get().as_slice(),
         ),
         StmtForm::Assign(x, value) => {
             let heard = listener.hear(heard, variable(x.get()));
-            tell_expr(listener, heard, value)
+            tell_expr(listener, heard, value.get())
         }
         StmtForm::Value(e) => tell_expr(listener, heard, e),
     }

@@ -13,7 +13,7 @@ ghost use Rattle.pz_env.specs.devices.Making.{exchange_at, id_at};
 
 use crate::names::{VARIABLE, id_list, id_of};
 use pz_env_script::Transfer;
-use pz_items::{Boxed, Items, Shared};
+use pz_items::{Boxed, Items, Shared, both};
 use pz_syntax::{Expr, ExprForm, Id, Literal, Name, Pos, Stmt, StmtForm};
 use pz_value::Value;
 use std::alloc::{AllocError, Global};
@@ -82,13 +82,14 @@ fn send(
     let args = arguments(alloc, at, values)?;
     let port = Boxed::new(alloc, port)?;
     let name = Boxed::new(alloc, id_of(message, at)?)?;
+    let block = Boxed::new(alloc, None)?;
     Ok(Stmt {
         pos: at,
         form: StmtForm::Send {
             port,
             name,
             args,
-            block: None,
+            block,
         },
     })
 }
@@ -99,17 +100,19 @@ fn receive(alloc: Global, at: Pos, port: Id, message: &Name, count: u32) -> Resu
     ensures { IfOk result (λ s. statement.view s ≡ receive at port (id_at message.now at)
         (unless_none (replicate count (id_at variable_name at))) None left_out) }
 {
-    let into = Boxed::of_option(alloc, id_list(alloc, VARIABLE, at, count as usize)?)?;
+    let into = Boxed::of_option(alloc, id_list(alloc, VARIABLE, at, count as usize)?);
+    let into = Boxed::of_result(alloc, into)?;
     let port = Boxed::new(alloc, port)?;
     let name = Boxed::new(alloc, id_of(message, at)?)?;
+    let (condition, block) = both(Boxed::new(alloc, None), Boxed::new(alloc, None))?;
     Ok(Stmt {
         pos: at,
         form: StmtForm::Receive {
             port,
             name,
             into,
-            condition: None,
-            block: None,
+            condition,
+            block,
         },
     })
 }

@@ -14,13 +14,13 @@ use pz_items::{Boxed, Items, both};
 use pz_parser_cursor::{Cursor, Next, Refusal, optional_names};
 use pz_parser_expressions::{arguments, block, optional_arguments};
 use pz_syntax::{Expr, Id, Stmt, StmtForm};
-use std::alloc::Global;
+use std::alloc::{AllocError, Global};
 
 /// The variables and the condition of a reception. A condition is there only where brackets are.
 #[derive(Drop)]
 pub struct Reception {
-    pub into: Option<Boxed<Items<Id>>>,
-    pub condition: Option<Boxed<Expr>>,
+    pub into: Boxed<Option<Boxed<Items<Id>>>>,
+    pub condition: Boxed<Option<Boxed<Expr>>>,
 }
 
 /// A `!` stands behind the next token.
@@ -33,7 +33,7 @@ pub fn send(alloc: Global, cursor: &mut Cursor<'_>, depth: usize) -> Result<Stmt
     cursor.skip();
     let name = Boxed::new(alloc, cursor.expect_id(alloc, Next::Word)?)?;
     let args = optional_arguments(alloc, cursor, depth)?;
-    let block = optional_block(alloc, cursor, depth)?;
+    let block = Boxed::new(alloc, optional_block(alloc, cursor, depth)?)?;
     let form = StmtForm::Send {
         port,
         name,
@@ -71,7 +71,7 @@ pub fn call(alloc: Global, cursor: &mut Cursor<'_>, depth: usize) -> Result<Stmt
     ensures reads { Reads view (spec.called depth cursor.old) result cursor.new }
 {
     let pos = cursor.pos();
-    let method = cursor.take_id(alloc)?;
+    let method = Boxed::new(alloc, cursor.take_id(alloc)?)?;
     let args = call_arguments(alloc, cursor, depth)?;
     let results = Boxed::new(alloc, call_results(alloc, cursor)?)?;
     let form = StmtForm::Call {
@@ -129,12 +129,12 @@ fn with_block<T: Drop>(
     cursor: &mut Cursor<'_>,
     depth: usize,
     value: T,
-) -> Result<(T, Option<Boxed<Items<Expr>>>), Refusal>
+) -> Result<(T, Boxed<Option<Boxed<Items<Expr>>>>), Refusal>
     ensures kept { IfOk result (λ read. read.0 ≡ value) }
     ensures reads { Reads (λ read. part_view read.1)
         (spec.after_message depth cursor.old) result cursor.new }
 {
-    let block = optional_block(alloc, cursor, depth)?;
+    let block = Boxed::new(alloc, optional_block(alloc, cursor, depth)?)?;
     Ok((value, block))
 }
 
@@ -149,11 +149,20 @@ fn optional_reception(
 {
     match cursor.peek() {
         Next::LeftParen => enclosed_reception(alloc, cursor, depth),
-        _ => Ok(Reception {
-            into: None,
-            condition: None,
-        }),
+        _ => Ok(boxed_reception(alloc, None, None)?),
     }
+}
+
+/// These variables and this condition, in boxes.
+fn boxed_reception(
+    alloc: Global,
+    into: Option<Boxed<Items<Id>>>,
+    condition: Option<Boxed<Expr>>,
+) -> Result<Reception, AllocError>
+    ensures { IfOk result (λ r. (r.into ≡ into) × (r.condition ≡ condition)) }
+{
+    let (into, condition) = both(Boxed::new(alloc, into), Boxed::new(alloc, condition))?;
+    Ok(Reception { into, condition })
 }
 
 /// A `(` stands next.
@@ -171,10 +180,7 @@ fn enclosed_reception(
     let condition = condition(alloc, cursor, depth)?;
     let condition = up_to(cursor, condition, Next::RightParen)?;
     let (names, condition) = both(Boxed::new(alloc, names), Boxed::of_option(alloc, condition))?;
-    Ok(Reception {
-        into: Some(names),
-        condition,
-    })
+    Ok(boxed_reception(alloc, Some(names), condition)?)
 }
 
 /// The condition of a reception, if a `|` stands next.

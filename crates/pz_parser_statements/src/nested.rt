@@ -46,6 +46,7 @@ impl<F: Fn(Global, &mut Cursor<'_>, usize) -> Result<Stmt, Refusal>> Grammar<F> 
         cursor.deepen(self.depth)?;
         let guard = self.test(cursor, Next::RightBracket)?;
         let (guard, stmt) = self.with_inner(cursor, guard)?;
+        let (guard, stmt) = both(Boxed::new(self.alloc, guard), Ok(stmt))?;
         let form = StmtForm::Guard(guard, stmt);
         Ok(Stmt { pos, form })
     }
@@ -67,7 +68,7 @@ impl<F: Fn(Global, &mut Cursor<'_>, usize) -> Result<Stmt, Refusal>> Grammar<F> 
             Boxed::new(self.alloc, body),
             Boxed::of_option(self.alloc, other),
         );
-        let (test, (body, other)) = both(Ok(test), parts)?;
+        let (test, (body, other)) = both(Boxed::new(self.alloc, test), parts)?;
         let form = StmtForm::If(test, body, other);
         Ok(Stmt { pos, form })
     }
@@ -99,6 +100,7 @@ impl<F: Fn(Global, &mut Cursor<'_>, usize) -> Result<Stmt, Refusal>> Grammar<F> 
         let test = self.test(cursor, Next::Do)?;
         let (test, body) = self.with_sequence(cursor, test)?;
         let (test, body) = up_to(cursor, (test, body), Next::Od)?;
+        let (test, body) = both(Boxed::new(self.alloc, test), Ok(body))?;
         let form = StmtForm::While(test, body);
         Ok(Stmt { pos, form })
     }

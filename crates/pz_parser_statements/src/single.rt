@@ -69,7 +69,8 @@ fn assign(alloc: Global, cursor: &mut Cursor<'_>, depth: usize) -> Result<Stmt, 
     let pos = cursor.pos();
     let name = Boxed::new(alloc, cursor.take_id(alloc)?)?;
     cursor.skip();
-    let form = StmtForm::Assign(name, value(alloc, cursor, depth)?);
+    let value = Boxed::new(alloc, value(alloc, cursor, depth)?)?;
+    let form = StmtForm::Assign(name, value);
     Ok(Stmt { pos, form })
 }
 

@@ -18,7 +18,7 @@ impl Drop for Stmt {
 }
 
 /// The forms of statements. What is optional is kept as written or not written. What is in a box is there
-/// so that a statement takes 80 bytes, since a text may have one for every two bytes.
+/// so that a statement takes 56 bytes, since a text may have one for every two bytes.
 #[cycle(stmt)]
 #[derive(Drop)]
 pub enum StmtForm {
@@ -26,32 +26,32 @@ pub enum StmtForm {
     Delay(Expr),
     Group(Items<Stmt>),
     Block(Items<Expr>),
-    Guard(Expr, Boxed<Stmt>),
+    Guard(Boxed<Expr>, Boxed<Stmt>),
     Par(Items<Items<Stmt>>),
     Sel(Items<Items<Stmt>>),
-    If(Expr, Boxed<Items<Stmt>>, Option<Boxed<Items<Stmt>>>),
-    While(Expr, Items<Stmt>),
+    If(Boxed<Expr>, Boxed<Items<Stmt>>, Option<Boxed<Items<Stmt>>>),
+    While(Boxed<Expr>, Items<Stmt>),
     Abort(Items<Stmt>, Boxed<Stmt>),
     Interrupt(Items<Stmt>, Boxed<Stmt>),
     Send {
         port: Boxed<Id>,
         name: Boxed<Id>,
         args: Option<Boxed<Items<Expr>>>,
-        block: Option<Boxed<Items<Expr>>>,
+        block: Boxed<Option<Boxed<Items<Expr>>>>,
     },
     /// Where there is a condition, `into` is there, and may be empty.
     Receive {
         port: Boxed<Id>,
         name: Boxed<Id>,
-        into: Option<Boxed<Items<Id>>>,
-        condition: Option<Boxed<Expr>>,
-        block: Option<Boxed<Items<Expr>>>,
+        into: Boxed<Option<Boxed<Items<Id>>>>,
+        condition: Boxed<Option<Boxed<Expr>>>,
+        block: Boxed<Option<Boxed<Items<Expr>>>>,
     },
     Call {
-        method: Id,
+        method: Boxed<Id>,
         args: Items<Expr>,
         results: Boxed<Items<Id>>,
     },
-    Assign(Boxed<Id>, Expr),
+    Assign(Boxed<Id>, Boxed<Expr>),
     Value(Expr),
 }

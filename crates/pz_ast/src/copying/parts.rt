@@ -29,6 +29,12 @@ impl<T: Copied + Drop> Copied for Items<T> {
     }
 }
 
+impl<T: Copied + Drop> Copied for Option<T> {
+    fn copied(&self, alloc: Global) -> Result<Option<T>, AllocError> {
+        copy_option(alloc, self)
+    }
+}
+
 /// An equal list. The only error is want of memory.
 pub(crate) fn copy_items<T: Copied + Drop>(
     alloc: Global,

@@ -28,7 +28,7 @@ fn copy_form(alloc: Global, form: &StmtForm) -> Result<StmtForm, AllocError>
         StmtForm::Block(list) => Ok(StmtForm::Block(copy_exprs(alloc, list.as_slice())?)),
         StmtForm::Guard(test, guarded) => {
             let guarded = copy_boxed(alloc, guarded.get());
-            let (test, guarded) = both(copy_expression(alloc, test), guarded)?;
+            let (test, guarded) = both(test.copied(alloc), guarded)?;
             Ok(StmtForm::Guard(test, guarded))
         }
         StmtForm::Par(branches) => Ok(StmtForm::Par(copy_branches(alloc, branches.as_slice())?)),
@@ -36,19 +36,19 @@ fn copy_form(alloc: Global, form: &StmtForm) -> Result<StmtForm, AllocError>
         StmtForm::If(test, part, None) => {
             let part = copy_statements(alloc, part.get().as_slice());
             let part = Boxed::of_result(alloc, part);
-            let (test, part) = both(copy_expression(alloc, test), part)?;
+            let (test, part) = both(test.copied(alloc), part)?;
             Ok(StmtForm::If(test, part, None))
         }
         StmtForm::If(test, part, Some(rest)) => {
             let part = copy_statements(alloc, part.get().as_slice());
             let rest = copy_statements(alloc, rest.get().as_slice());
             let parts = both(Boxed::of_result(alloc, part), Boxed::of_result(alloc, rest));
-            let (test, (part, rest)) = both(copy_expression(alloc, test), parts)?;
+            let (test, (part, rest)) = both(test.copied(alloc), parts)?;
             Ok(StmtForm::If(test, part, Some(rest)))
         }
         StmtForm::While(test, body) => {
             let body = copy_statements(alloc, body.as_slice());
-            let (test, body) = both(copy_expression(alloc, test), body)?;
+            let (test, body) = both(test.copied(alloc), body)?;
             Ok(StmtForm::While(test, body))
         }
         StmtForm::Abort(first, second) => {
@@ -94,14 +94,14 @@ fn copy_boxed(alloc: Global, stmt: &Stmt) -> Result<Boxed<Stmt>, AllocError>
 
 fn copy_call(
     alloc: Global,
-    method: &Id,
+    method: &Boxed<Id>,
     args: &[Expr],
     results: &Boxed<Items<Id>>,
 ) -> Result<StmtForm, AllocError>
     ensures { IfOk result (λ copy. copy ≡ StmtForm.Call method.now args.now results.now) }
 {
     let lists = both(copy_exprs(alloc, args), results.copied(alloc));
-    let (method, (args, results)) = both(method.copy(), lists)?;
+    let (method, (args, results)) = both(method.copied(alloc), lists)?;
     Ok(StmtForm::Call {
         method,
         args,
@@ -109,10 +109,14 @@ fn copy_call(
     })
 }
 
-fn copy_assignment(alloc: Global, target: &Boxed<Id>, value: &Expr) -> Result<StmtForm, AllocError>
+fn copy_assignment(
+    alloc: Global,
+    target: &Boxed<Id>,
+    value: &Boxed<Expr>,
+) -> Result<StmtForm, AllocError>
     ensures { IfOk result (λ copy. copy ≡ StmtForm.Assign target.now value.now) }
 {
-    let (target, value) = both(target.copied(alloc), copy_expression(alloc, value))?;
+    let (target, value) = both(target.copied(alloc), value.copied(alloc))?;
     Ok(StmtForm::Assign(target, value))
 }
 
@@ -121,12 +125,12 @@ fn copy_send(
     port: &Boxed<Id>,
     name: &Boxed<Id>,
     args: &Option<Boxed<Items<Expr>>>,
-    block: &Option<Boxed<Items<Expr>>>,
+    block: &Boxed<Option<Boxed<Items<Expr>>>>,
 ) -> Result<StmtForm, AllocError>
     ensures { IfOk result (λ copy. copy ≡ StmtForm.Send port.now name.now args.now block.now) }
 {
     let names = both(port.copied(alloc), name.copied(alloc));
-    let lists = both(copy_option(alloc, args), copy_option(alloc, block));
+    let lists = both(copy_option(alloc, args), block.copied(alloc));
     let ((port, name), (args, block)) = both(names, lists)?;
     Ok(StmtForm::Send {
         port,
@@ -140,16 +144,16 @@ fn copy_receive(
     alloc: Global,
     port: &Boxed<Id>,
     name: &Boxed<Id>,
-    into: &Option<Boxed<Items<Id>>>,
-    condition: &Option<Boxed<Expr>>,
-    block: &Option<Boxed<Items<Expr>>>,
+    into: &Boxed<Option<Boxed<Items<Id>>>>,
+    condition: &Boxed<Option<Boxed<Expr>>>,
+    block: &Boxed<Option<Boxed<Items<Expr>>>>,
 ) -> Result<StmtForm, AllocError>
     ensures { IfOk result (λ copy. copy ≡ StmtForm.Receive port.now name.now into.now condition.now
         block.now) }
 {
     let names = both(port.copied(alloc), name.copied(alloc));
-    let received = both(copy_option(alloc, into), copy_option(alloc, condition));
-    let all = both(both(names, received), copy_option(alloc, block));
+    let received = both(into.copied(alloc), condition.copied(alloc));
+    let all = both(both(names, received), block.copied(alloc));
     let (((port, name), (into, condition)), block) = all?;
     Ok(StmtForm::Receive {
         port,

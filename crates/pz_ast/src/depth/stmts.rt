@@ -19,18 +19,19 @@ fn stmt_nesting(statement: &Stmt) -> u32
         StmtForm::Delay(length) => expr_nesting(length),
         StmtForm::Group(body) => 1 + stmts_nesting(body.as_slice()),
         StmtForm::Block(es) => 1 + exprs_nesting(es.as_slice()),
-        StmtForm::Guard(test, body) => 1 + expr_nesting(test).max(stmt_nesting(body.get())),
+        StmtForm::Guard(test, body) => 1 + expr_nesting(test.get()).max(stmt_nesting(body.get())),
         StmtForm::Par(branches) => 1 + branches_nesting(branches.as_slice()),
         StmtForm::Sel(branches) => 1 + branches_nesting(branches.as_slice()),
         StmtForm::If(test, body, other) => {
-            let test = expr_nesting(test);
+            let test = expr_nesting(test.get());
             let body = stmts_nesting(body.get().as_slice());
             match other {
                 None => 1 + test.max(body),
                 Some(other) => 1 + test.max(body.max(stmts_nesting(other.get().as_slice()))),
             }
         }
-        StmtForm::While(test, body) => 1 + expr_nesting(test).max(stmts_nesting(body.as_slice())),
+        StmtForm::While(test, body) => 1
+            + expr_nesting(test.get()).max(stmts_nesting(body.as_slice())),
         StmtForm::Abort(body, other) => {
             1 + stmts_nesting(body.as_slice()).max(stmt_nesting(other.get()))
         }
@@ -38,16 +39,16 @@ fn stmt_nesting(statement: &Stmt) -> u32
             1 + stmts_nesting(body.as_slice()).max(stmt_nesting(handler.get()))
         }
         StmtForm::Send { args, block, .. } => {
-            bracketed_nesting(args).max(bracketed_nesting(block))
+            bracketed_nesting(args).max(bracketed_nesting(block.get()))
         }
         StmtForm::Receive {
             into,
             condition,
             block,
             ..
-        } => reception_nesting(into, condition).max(bracketed_nesting(block)),
+        } => reception_nesting(into.get(), condition.get()).max(bracketed_nesting(block.get())),
         StmtForm::Call { args, .. } => 1 + exprs_nesting(args.as_slice()),
-        StmtForm::Assign(_, value) => expr_nesting(value),
+        StmtForm::Assign(_, value) => expr_nesting(value.get()),
         StmtForm::Value(e) => expr_nesting(e),
     }
 }

@@ -26,13 +26,13 @@ fn put_stmt(out: &mut Items<Mark>, statement: &Stmt) -> Result<(), AllocError>
         StmtForm::Group(body) => put_group(out, body.as_slice()),
         StmtForm::Block(es) => put_block(out, es.as_slice()),
         StmtForm::Guard(test, body) => {
-            put_guard(out, test)?;
+            put_guard(out, test.get())?;
             put_stmt(out, body.get())
         }
         StmtForm::Par(branches) => put_par(out, branches.as_slice()),
         StmtForm::Sel(branches) => put_sel(out, branches.as_slice()),
         StmtForm::If(test, body, other) => {
-            put_test(out, Keyword::If, test, Keyword::Then)?;
+            put_test(out, Keyword::If, test.get(), Keyword::Then)?;
             put_stmts(out, body.get().as_slice())?;
             if let Some(other) = other {
                 put_otherwise(out, other.get().as_slice())?;
@@ -40,7 +40,7 @@ fn put_stmt(out: &mut Items<Mark>, statement: &Stmt) -> Result<(), AllocError>
             put_keyword(out, Keyword::Fi)
         }
         StmtForm::While(test, body) => {
-            put_test(out, Keyword::While, test, Keyword::Do)?;
+            put_test(out, Keyword::While, test.get(), Keyword::Do)?;
             put_stmts(out, body.as_slice())?;
             put_keyword(out, Keyword::Od)
         }
@@ -57,20 +57,27 @@ fn put_stmt(out: &mut Items<Mark>, statement: &Stmt) -> Result<(), AllocError>
             name,
             args,
             block,
-        } => put_send(out, port.get(), name.get(), args, block),
+        } => put_send(out, port.get(), name.get(), args, block.get()),
         StmtForm::Receive {
             port,
             name,
             into,
             condition,
             block,
-        } => put_receive(out, port.get(), name.get(), into, condition, block),
+        } => put_receive(
+            out,
+            port.get(),
+            name.get(),
+            into.get(),
+            condition.get(),
+            block.get(),
+        ),
         StmtForm::Call {
             method,
             args,
             results,
-        } => put_call(out, method, args.as_slice(), results.get()),
-        StmtForm::Assign(variable, value) => put_assignment(out, variable.get(), value),
+        } => put_call(out, method.get(), args.as_slice(), results.get()),
+        StmtForm::Assign(variable, value) => put_assignment(out, variable.get(), value.get()),
         StmtForm::Value(e) => put_expr(out, e),
     }
 }

@@ -45,7 +45,7 @@ fn resolve_form(
         }
         StmtForm::Guard(test, guarded) => {
             let guarded = share_statement(alloc, scope, guarded.get());
-            let (test, guarded) = both(share_code(alloc, scope, test), guarded)?;
+            let (test, guarded) = both(share_code(alloc, scope, test.get()), guarded)?;
             Ok(StepForm::Guard(test, guarded))
         }
         StmtForm::Par(branches) => {
@@ -56,7 +56,7 @@ fn resolve_form(
         }
         StmtForm::If(test, part, rest) => {
             let part = resolve_statements(alloc, scope, part.get().as_slice());
-            let parts = both(share_code(alloc, scope, test), part);
+            let parts = both(share_code(alloc, scope, test.get()), part);
             match rest {
                 None => {
                     let (test, part) = parts?;
@@ -71,7 +71,7 @@ fn resolve_form(
         }
         StmtForm::While(test, body) => {
             let body = resolve_statements(alloc, scope, body.as_slice());
-            let (test, body) = both(share_code(alloc, scope, test), body)?;
+            let (test, body) = both(share_code(alloc, scope, test.get()), body)?;
             Ok(StepForm::While(test, body))
         }
         StmtForm::Abort(first, second) => {
@@ -91,7 +91,7 @@ fn resolve_form(
             name,
             args,
             block,
-        } => resolve_send(alloc, scope, port.get(), name.get(), args, block, pos),
+        } => resolve_send(alloc, scope, port.get(), name.get(), args, block.get(), pos),
         StmtForm::Receive {
             port,
             name,
@@ -100,6 +100,7 @@ fn resolve_form(
             block,
         } => {
             let (port, name) = (port.get(), name.get());
+            let (into, condition, block) = (into.get(), condition.get(), block.get());
             resolve_receive(alloc, scope, port, name, into, condition, block, pos)
         }
         StmtForm::Call {
@@ -109,7 +110,10 @@ fn resolve_form(
         } => {
             let args = share_codes(alloc, scope, args.as_slice());
             let results = share_slots(alloc, scope, results.get().as_slice());
-            let (method, (args, results)) = both(share_name(alloc, method), both(args, results))?;
+            let (method, (args, results)) = both(
+                share_name(alloc, method.get()),
+                both(args, results),
+            )?;
             Ok(StepForm::Call {
                 method,
                 args,
@@ -117,7 +121,7 @@ fn resolve_form(
             })
         }
         StmtForm::Assign(target, value) => {
-            resolve_assignment(alloc, scope, target.get(), value, pos)
+            resolve_assignment(alloc, scope, target.get(), value.get(), pos)
         }
         StmtForm::Value(value) => Ok(StepForm::Eval(resolve(alloc, scope, value)?)),
     }
