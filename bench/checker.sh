@@ -14,13 +14,13 @@ process='process class P(x : Integer) ports p messages p!m init s()() methods s(
 { echo -n "$process instances"; pieces 10000 ' p% : P(x := %)'; echo -n ' channels {'; pieces 10000 ', p%.p' | sed 's/^, //'; echo '}'; } >"$room/many ends of a channel"
 { echo -n 'process class C0 init s()() methods s()() skip '; pieces 10000 'cluster class C% instances c : C@ '; echo 'system instances c : C10000'; } >"$room/clusters in a chain"
 { echo -n 'cluster class C0 instances c : C25000 '; pieces 25000 'cluster class C% instances c : C@ '; echo 'system instances c : C25000'; } >"$room/clusters in a ring"
-# (from here on there are as many trees for a byte of text as there can be)
+# (from here on trees stand close in the text, most of them as close as they can)
 body='process class A() ports p messages p!m, p?m variables x : Integer init s()() methods s()() '
 { echo -n "$body"; pieces 80000 'x := x + 1; '; echo 'skip system'; } >"$room/statements that assign"
 { echo -n "$body"; pieces 80000 'p?m; p!m; '; echo 'skip system'; } >"$room/messages"
 { echo -n "$body"; pieces 500000 'x;'; echo 'skip system'; } >"$room/names alone"
 { echo -n "$body"; pieces 200000 'x+x;'; echo 'skip system'; } >"$room/sums"
-{ echo -n "$body"; pieces 10000 "$(printf -- '-%.0s' {1..97})x;"; echo 'skip system'; } >"$room/signs"
+{ echo -n "$body"; pieces 10000 "x:=$(printf -- '-%.0s' {1..97})x;"; echo 'skip system'; } >"$room/signs"
 { echo -n "$body"; pieces 7500 "x$(printf -- '+x%.0s' {1..65});"; echo 'skip system'; } >"$room/long sums"
 { echo -n "$body"; pieces 5000 "$(printf -- '(%.0s' {1..97})x$(printf -- ')%.0s' {1..97});"; echo 'skip system'; } >"$room/brackets"
 { echo -n "$body"; pieces 3400 "$(printf -- '[x]%.0s' {1..97})x;"; echo 'skip system'; } >"$room/guards"

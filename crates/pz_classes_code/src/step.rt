@@ -37,7 +37,7 @@ impl Step {
 
 /// The forms of statements, as in the syntax, but for `Eval`: an assignment, or an expression that
 /// is a statement. Parts that what is left of a process holds by itself are shared too. The block of a
-/// receive is in a box so that a form takes 56 bytes, since a text may have one for each three bytes.
+/// receive is in a box so that a form takes 56 bytes, since a text may have one for every two bytes.
 #[cycle(step)]
 #[derive(Drop)]
 pub enum StepForm {
