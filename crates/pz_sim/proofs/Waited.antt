@@ -25,7 +25,7 @@ use Rattle.pz_sim_totals.specs.Sums as sums
 use Rattle.pz_sim_laws.specs.Members.{config_of}
 use Rattle.pz_sim_laws.specs.Deciding.{total_of, decided}
 use Rattle.pz_sim_laws.specs.Laws.{PassingLeadsOn, MembersPass, SendsOutlast, ReceivesOutlast, VerdictsOutlast, ReceiversStand, PairsAreCouples}
-use Rattle.pz_tree_refreshing.specs.Refreshing.{HasRoom}
+use Rattle.pz_tree_standing.specs.Soon.{HasRoom}
 use Rattle.pz_tree.specs.declared.tree.Tree.{Tree}
 use Rattle.pz_tree.specs.Trees.{IsFresh}
 use Rattle.pz_sim.specs.Costs.{visited_all, names, names_at, with_end_in, PassesSoon}

@@ -17,7 +17,7 @@ use Rattle.pz_sim_totals.specs.declared.total.Total.{Total}
 use Rattle.pz_sim_totals.specs.Sums as sums
 use Rattle.pz_sim_laws.specs.Members.{Member}
 use Rattle.pz_sim_laws.specs.Deciding.{total_of, total_of_all, offers_in, calm, unless, decided}
-use Rattle.pz_tree_refreshing.specs.Refreshing.{IsSoon}
+use Rattle.pz_tree_standing.specs.Soon.{IsSoon}
 use Rattle.pz_tree_standing.specs.Summaries.{least_of, summary_of}
 use Rattle.pz_tree.specs.declared.tree.Tree.{Tree}
 use Rattle.pz_tree.specs.Trees.{at_in, term_in, IsFresh}

@@ -5,7 +5,7 @@ ghost use Rattle.pz_classes.specs.CheckedView.{checked_model};
 ghost use Rattle.pz_bind.specs.devices.Nets.{IsNet};
 ghost use Rattle.pz_rules.specs.Steps.{PassesTo};
 ghost use Rattle.pz_sim_laws.specs.Members.{config_of};
-ghost use Rattle.pz_tree_refreshing.specs.Refreshing.{HasRoom};
+ghost use Rattle.pz_tree_standing.specs.Soon.{HasRoom};
 ghost use Rattle.pz_tree.specs.Trees.{IsFresh, woken_in};
 ghost use Rattle.pz_sim.specs.Costs.{visited, visited_all, names_at, with_end_in};
 ghost use Rattle.pz_sim.specs.Members.{members_of};

@@ -15,7 +15,8 @@ use Rattle.pz_tree_nodes.specs.Tended.{TendedOption}
 use Rattle.pz_tree_nodes.specs.Planting.{root_of}
 use Rattle.pz_tree_regrowing.specs.Regrowing.{StandsOption}
 use Rattle.pz_rules.specs.Short.{IsShort}
-use Rattle.pz_tree_refreshing.specs.Refreshing.{IsSoon, RefreshRule, IsRefreshed}
+use Rattle.pz_tree_standing.specs.Soon.{IsSoon}
+use Rattle.pz_tree_refreshing.specs.Refreshing.{RefreshRule, IsRefreshed}
 use Rattle.pz_tree.specs.declared.tree.Tree.{Tree}
 use Rattle.pz_tree.specs.Trees.{plant_in, term_in, process_in, at_in, IsThere, FreshOption, TimelyOption, IsFresh, live_of, live_in}
 use Rattle.pz_tree.proofs.Reading.{Under, is_read, its_term, there_by, fresh_by}

@@ -16,7 +16,7 @@ use Rattle.pz_tree_nodes.specs.Tended.{TendedOption}
 use Rattle.pz_tree_nodes.specs.Planting.{root_of}
 use Rattle.pz_tree_regrowing.specs.Regrowing.{StandsOption}
 use Rattle.pz_rules.specs.Short.{IsShort}
-use Rattle.pz_tree_refreshing.specs.Refreshing.{HasRoom, IsSoon}
+use Rattle.pz_tree_standing.specs.Soon.{HasRoom, IsSoon}
 use Rattle.pz_tree.specs.declared.tree.Tree.{Tree}
 use Rattle.pz_tree.specs.Trees.{plant_in, term_in, at_in, IsOf, IsThere, FreshOption, TimelyOption, IsFresh}
 use Rattle.pz_tree.specs.devices.Kept.{kept_of}

@@ -22,7 +22,7 @@ use Rattle.pz_tree_nodes.specs.View.{Plant}
 use Rattle.pz_tree_nodes.specs.Planting.{Planted}
 use Rattle.pz_tree_regrowing.specs.Regrowing.{StandsOption}
 use Rattle.pz_rules.specs.Short.{IsShort}
-use Rattle.pz_tree_refreshing.specs.Refreshing.{HasRoom}
+use Rattle.pz_tree_standing.specs.Soon.{HasRoom}
 use Rattle.pz_tree.specs.declared.tree.Tree.{Tree}
 use Rattle.pz_tree.specs.Trees.{term_in, IsOf, IsThere, IsFresh}
 use Rattle.pz_tree.proofs.Reading.{Under, its_term, there_by}

@@ -16,7 +16,8 @@ use Rattle.pz_tree_nodes.specs.Planting.{root_of}
 use Rattle.pz_tree_regrowing.specs.Regrowing.{StandsOption}
 use Rattle.pz_tree_refreshing.specs.Live.{live_nodes}
 use Rattle.pz_rules.specs.Short.{IsShort}
-use Rattle.pz_tree_refreshing.specs.Refreshing.{HasRoom, IsSoon, Timely}
+use Rattle.pz_tree_standing.specs.Soon.{HasRoom, IsSoon}
+use Rattle.pz_tree_refreshing.specs.Refreshing.{Timely}
 use Rattle.pz_tree_elapsing.specs.Waking.{woken_nodes}
 use Rattle.pz_tree.specs.declared.tree.Tree.{Tree}
 

@@ -7,7 +7,7 @@ ghost use Rattle.pz_rules.specs.Delays.{Passes};
 ghost use Rattle.pz_rules.specs.Leaving as leaving;
 ghost use Rattle.pz_tree_standing.specs.Summaries.{summary_of};
 ghost use Rattle.pz_tree_standing.specs.Steady.{later};
-ghost use Rattle.pz_tree_refreshing.specs.Refreshing.{HasRoom};
+ghost use Rattle.pz_tree_standing.specs.Soon.{HasRoom};
 ghost use Rattle.pz_tree.specs.Trees.{at_in, term_in, IsFresh, woken_in};
 ghost use Rattle.pz_tree.specs.devices.Resting.{RestRule};
 

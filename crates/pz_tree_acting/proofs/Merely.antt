@@ -16,7 +16,7 @@ use Rattle.pz_state.specs.Marks.{Seen, IsLatest, point_of_first}
 use Rattle.pz_state.specs.States.{StateView}
 use Rattle.pz_tree_standing.specs.Frames.{open_as, HaveOpened}
 use Rattle.pz_rules.specs.Short.{IsShort, AreShort}
-use Rattle.pz_tree_refreshing.specs.Refreshing.{HasRoom}
+use Rattle.pz_tree_standing.specs.Soon.{HasRoom}
 use Rattle.pz_tree_standing.specs.FrameCounts.{times}
 use Rattle.pz_tree_acting.specs.declared.beginning.Begun.{Begun}
 use Rattle.pz_tree_acting.specs.declared.how.How.{How}

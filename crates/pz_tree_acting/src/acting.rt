@@ -8,7 +8,7 @@ ghost use Rattle.pz_part_opening.specs.Homes.{home_view};
 ghost use Rattle.pz_rules.specs.View.{term_view};
 ghost use Rattle.pz_state.specs.Marks.{IsLatest};
 ghost use Rattle.pz_rules.specs.Short.{IsShort};
-ghost use Rattle.pz_tree_refreshing.specs.Refreshing.{HasRoom};
+ghost use Rattle.pz_tree_standing.specs.Soon.{HasRoom};
 ghost use Rattle.pz_tree_acting.specs.Acting.{MayBeDone, ActRule, TrialRule, TrialSteps};
 ghost use Rattle.pz_tree_acting.specs.devices.Begun.{MayGoOn, StayRule};
 

@@ -24,7 +24,7 @@ use Rattle.pz_tree_standing.specs.Heads.{Head, leaf, wait}
 use Rattle.pz_tree_standing.specs.Calm.{HasBegun}
 use Rattle.pz_tree_nodes.specs.declared.kept.Kept.{Kept}
 use Rattle.pz_tree_nodes.proofs.Wakings.{or_none}
-use Rattle.pz_tree_refreshing.specs.Refreshing.{IsSoon}
+use Rattle.pz_tree_standing.specs.Soon.{IsSoon}
 use Rattle.pz_tree_refreshing.specs.devices.Reached.{reached_sum}
 use Rattle.pz_tree_refreshing.proofs.Sums.{none_sum}
 use Rattle.pz_tree_elapsing.specs.Waking.{wakes, is_due}

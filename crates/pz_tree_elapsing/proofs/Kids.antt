@@ -15,7 +15,7 @@ use Rattle.pz_tree_standing.specs.Steady.{later}
 use Rattle.pz_tree_standing.specs.Summaries.{summary_of}
 use Rattle.pz_tree_standing.specs.Heads.{Head, leaf, wait, sequence, parallel, select, guarded, frame, abort, idle, handling, shifted, inner_clock}
 use Rattle.pz_tree_standing.specs.Standing.{terms_of, HeadFits}
-use Rattle.pz_tree_standing.specs.Reached.{reaches}
+use Rattle.pz_tree_standing.specs.Reached.{reaches, behind_inside}
 use Rattle.pz_tree_standing.specs.Right.{Right}
 use Rattle.pz_tree_standing.proofs.Passing.{clock_goes}
 use Rattle.pz_tree_nodes.specs.declared.kept.Kept.{Kept}
@@ -28,11 +28,13 @@ use Rattle.pz_tree_nodes.proofs.Joins.{joined_associative, joined_none, none_joi
 use Rattle.pz_tree_nodes.proofs.Wakings.{or_none}
 use Rattle.pz_tree_refreshing.specs.Live.{live_below}
 use Rattle.pz_rules.specs.Short.{IsShort}
-use Rattle.pz_tree_refreshing.specs.Refreshing.{HasRoom, IsSoon, Timely, RefreshRule}
+use Rattle.pz_tree_standing.specs.Soon.{HasRoom, IsSoon}
+use Rattle.pz_tree_refreshing.specs.Refreshing.{Timely, RefreshRule}
 use Rattle.pz_tree_refreshing.specs.devices.Reached as reached
-use Rattle.pz_tree_refreshing.specs.devices.Reached.{added, reached_sum, Says, behind_inside}
+use Rattle.pz_tree_refreshing.specs.devices.Reached.{added, reached_sum, Says}
 use Rattle.pz_tree_refreshing.specs.devices.Levels.{IsBare, IsLeft}
-use Rattle.pz_tree_refreshing.proofs.Short.{clock_back, room_inside, may_shift}
+use Rattle.pz_tree_standing.proofs.Soon.{clock_back, room_inside}
+use Rattle.pz_tree_refreshing.proofs.Short.{may_shift}
 use Rattle.pz_tree_refreshing.proofs.Sums.{plus_added}
 use Rattle.pz_tree_refreshing.proofs.Kids.{says_more, says_gone, says_unreached, says_reached, still_stand, kid_is, rest_is, nothing_left}
 use Rattle.pz_tree_elapsing.specs.Waking.{visited, woken_below}

@@ -21,7 +21,7 @@ use Rattle.pz_tree_standing.proofs.Unasked.{unasked_is_steady}
 use Rattle.pz_tree_standing.specs.Heads.{Head, inner_clock, inner_frame, formed}
 use Rattle.pz_tree_standing.specs.Laws.{NoDeeperThanHigh}
 use Rattle.pz_tree_standing.specs.Standing.{terms_of, HeadFits, FitAll}
-use Rattle.pz_tree_standing.specs.Reached.{reaches}
+use Rattle.pz_tree_standing.specs.Reached.{reaches, behind_inside}
 use Rattle.pz_tree_standing.specs.Resting.{RestAll}
 use Rattle.pz_tree_standing.specs.Right.{RightAll}
 use Rattle.pz_tree_standing.specs.Whole.{AreWhole}
@@ -36,10 +36,11 @@ use Rattle.pz_tree_nodes.specs.Fresh.{AllFlagged}
 use Rattle.pz_tree_nodes.specs.Laws.{UnwokenAreCalm, UnwokenAreSteady}
 use Rattle.pz_tree_nodes.proofs.Marks.{marked_alike}
 use Rattle.pz_rules.specs.Short.{IsShort}
-use Rattle.pz_tree_refreshing.specs.Refreshing.{HasRoom, IsSoon, AllTimely}
-use Rattle.pz_tree_refreshing.specs.devices.Reached.{Says, behind_inside}
+use Rattle.pz_tree_standing.specs.Soon.{HasRoom, IsSoon}
+use Rattle.pz_tree_refreshing.specs.Refreshing.{AllTimely}
+use Rattle.pz_tree_refreshing.specs.devices.Reached.{Says}
 use Rattle.pz_tree_refreshing.specs.devices.Levels.{IsPutBack, KidsTended}
-use Rattle.pz_tree_refreshing.proofs.Short.{least_soon, clock_back}
+use Rattle.pz_tree_standing.proofs.Soon.{least_soon, clock_back}
 use Rattle.pz_tree_refreshing.proofs.Levels.{kids_whole, kids_fit, kids_rest, kids_marked, some_is_none, same_node, what_in, keys_in, absent, kept_top, high_top, as_deep}
 use Rattle.pz_tree_elapsing.specs.Waking.{wakes, woken_below, woken_among}
 use Rattle.pz_tree_elapsing.specs.Elapsing.{MayElapse, HasElapsed, ElapseRule}

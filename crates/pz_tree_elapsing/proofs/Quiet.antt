@@ -16,7 +16,7 @@ use Rattle.pz_tree_standing.specs.Heads as head
 use Rattle.pz_tree_standing.specs.Reached.{reaches, GateRight}
 use Rattle.pz_tree_standing.proofs.Still.{is_ok}
 use Rattle.pz_tree_refreshing.specs.devices.Reached.{added, reached_sum}
-use Rattle.pz_tree_refreshing.proofs.Short.{here_later}
+use Rattle.pz_tree_standing.proofs.Soon.{here_later}
 use Rattle.pz_tree_refreshing.proofs.Sums.{IsPlain, plain_summary}
 use Rattle.pz_tree_elapsing.specs.Elapsing.{IsNotBefore}
 

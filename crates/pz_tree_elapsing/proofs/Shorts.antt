@@ -19,8 +19,8 @@ use Rattle.pz_tree_standing.specs.Heads.{Head, Shapes, formed}
 use Rattle.pz_tree_standing.specs.Heads as head
 use Rattle.pz_tree_standing.specs.Whole.{OneInside, HasParts}
 use Rattle.pz_rules.specs.Short.{IsShort, AreShort}
-use Rattle.pz_tree_refreshing.specs.Refreshing.{IsSoon}
-use Rattle.pz_tree_refreshing.proofs.Short.{least_soon}
+use Rattle.pz_tree_standing.specs.Soon.{IsSoon}
+use Rattle.pz_tree_standing.proofs.Soon.{least_soon}
 use Rattle.pz_tree_elapsing.proofs.Goings.{IsNoWait}
 
 -- ---------------------------------------------------------- where no active delay has still to begin

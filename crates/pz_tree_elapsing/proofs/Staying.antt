@@ -33,7 +33,8 @@ use Rattle.pz_tree_nodes.specs.Fresh.{Flagged, AllFlagged}
 use Rattle.pz_tree_nodes.specs.Laws.{UnwokenAreCalm, UnwokenAreSteady}
 use Rattle.pz_tree_nodes.proofs.Wakings.{in_under, in_two, in_children}
 use Rattle.pz_rules.specs.Short.{IsShort, AreShort}
-use Rattle.pz_tree_refreshing.specs.Refreshing.{IsSoon, Timely, AllTimely}
+use Rattle.pz_tree_standing.specs.Soon.{IsSoon}
+use Rattle.pz_tree_refreshing.specs.Refreshing.{Timely, AllTimely}
 use Rattle.pz_tree_elapsing.specs.Waking.{wakes, is_due}
 use Rattle.pz_tree_elapsing.specs.Elapsing.{MayElapse, IsNotBefore}
 use Rattle.pz_tree_elapsing.specs.devices.Levels.{NodeElapsed}

@@ -11,7 +11,7 @@ use Rattle.pz_tree_standing.specs.Summaries.{summary_of}
 use Rattle.pz_tree_standing.specs.Woken.{starts, clocked}
 use Rattle.pz_tree_standing.specs.Heads.{Head, leaf, wait, sequence, parallel, select, guarded, frame, abort, idle, handling, shifted, Shapes, inner_clock}
 use Rattle.pz_tree_standing.specs.Standing.{terms_of, HeadFits}
-use Rattle.pz_tree_standing.specs.Reached.{reaches}
+use Rattle.pz_tree_standing.specs.Reached.{reaches, behind_inside}
 use Rattle.pz_tree_standing.specs.Right.{Right, RightAll}
 use Rattle.pz_tree_standing.specs.Whole.{HasParts}
 use Rattle.pz_tree_nodes.specs.declared.kept.Kept.{Kept}
@@ -23,11 +23,13 @@ use Rattle.pz_tree_nodes.specs.Fresh.{Flagged, AllFlagged}
 use Rattle.pz_tree_nodes.proofs.Joins.{joined_none}
 use Rattle.pz_tree_refreshing.specs.Live.{live_below}
 use Rattle.pz_rules.specs.Short.{AreShort}
-use Rattle.pz_tree_refreshing.specs.Refreshing.{HasRoom, Timely, AllTimely, IsRefreshed}
+use Rattle.pz_tree_standing.specs.Soon.{HasRoom}
+use Rattle.pz_tree_refreshing.specs.Refreshing.{Timely, AllTimely, IsRefreshed}
 use Rattle.pz_tree_refreshing.specs.devices.Reached as reached
-use Rattle.pz_tree_refreshing.specs.devices.Reached.{added, reached_sum, Says, behind_inside}
+use Rattle.pz_tree_refreshing.specs.devices.Reached.{added, reached_sum, Says}
 use Rattle.pz_tree_refreshing.specs.devices.Levels.{IsLeft, KidsTended}
-use Rattle.pz_tree_refreshing.proofs.Short.{clock_back, room_inside, may_shift}
+use Rattle.pz_tree_standing.proofs.Soon.{clock_back, room_inside}
+use Rattle.pz_tree_refreshing.proofs.Short.{may_shift}
 use Rattle.pz_tree_refreshing.proofs.Kids.{says_more, says_gone, says_reached, still_stand}
 use Rattle.pz_tree_refreshing.proofs.Levels.{same_terms, same_width, same_parts}
 use Rattle.pz_tree_elapsing.specs.declared.turning.Turn.{Turn}

@@ -13,7 +13,8 @@ use Rattle.pz_tree_nodes.specs.View.{Plant, term_in}
 use Rattle.pz_tree_nodes.specs.Tended.{Tended}
 use Rattle.pz_tree_nodes.specs.Fresh.{Fresh}
 use Rattle.pz_rules.specs.Short.{IsShort}
-use Rattle.pz_tree_refreshing.specs.Refreshing.{HasRoom, IsSoon, Timely}
+use Rattle.pz_tree_standing.specs.Soon.{HasRoom, IsSoon}
+use Rattle.pz_tree_refreshing.specs.Refreshing.{Timely}
 use Rattle.pz_tree_elapsing.specs.Waking.{woken_nodes}
 
 -- it does not come before this moment, if there is one

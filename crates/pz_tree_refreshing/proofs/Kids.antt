@@ -12,7 +12,7 @@ use Rattle.pz_tree_standing.specs.Summaries.{summary_of}
 use Rattle.pz_tree_standing.specs.Woken.{starts, clocked}
 use Rattle.pz_tree_standing.specs.Heads.{Head, inner_clock}
 use Rattle.pz_tree_standing.specs.Standing.{terms_of, HeadFits}
-use Rattle.pz_tree_standing.specs.Reached.{reaches}
+use Rattle.pz_tree_standing.specs.Reached.{reaches, behind_inside}
 use Rattle.pz_tree_standing.specs.Right.{Right}
 use Rattle.pz_tree_nodes.specs.declared.kept.Kept.{Kept}
 use Rattle.pz_tree_nodes.specs.declared.node.What.{What}
@@ -24,10 +24,12 @@ use Rattle.pz_tree_nodes.proofs.Joins.{joined_associative, joined_none, none_joi
 use Rattle.pz_tree_nodes.proofs.Wakings.{or_none}
 use Rattle.pz_tree_refreshing.specs.Live.{live_below}
 use Rattle.pz_rules.specs.Short.{IsShort}
-use Rattle.pz_tree_refreshing.specs.Refreshing.{HasRoom, IsSoon, Timely}
-use Rattle.pz_tree_refreshing.specs.devices.Reached.{added, reached_sum, Says, behind_inside, later}
+use Rattle.pz_tree_standing.specs.Soon.{HasRoom, IsSoon}
+use Rattle.pz_tree_refreshing.specs.Refreshing.{Timely}
+use Rattle.pz_tree_refreshing.specs.devices.Reached.{added, reached_sum, Says, later}
 use Rattle.pz_tree_refreshing.specs.devices.Levels.{IsBare, NodeRefreshed, KidsRefreshed, IsLeft, IsBrought, AtRule, KidRule, KidsRule, RefreshesOn}
-use Rattle.pz_tree_refreshing.proofs.Short.{least_soon, clock_back, room_inside, may_shift, soon_here, here_later}
+use Rattle.pz_tree_standing.proofs.Soon.{least_soon, clock_back, room_inside, here_later}
+use Rattle.pz_tree_refreshing.proofs.Short.{may_shift, soon_here}
 use Rattle.pz_tree_refreshing.proofs.Sums.{plus_added, added_nil}
 
 or_left : (b : Bool) → false || b ≡ b

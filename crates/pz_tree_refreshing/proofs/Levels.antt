@@ -28,11 +28,12 @@ use Rattle.pz_tree_nodes.specs.Tended.{Tended, AreMarked}
 use Rattle.pz_tree_nodes.proofs.Marks.{marked_alike, unasked_right, unasked_flagged}
 use Rattle.pz_tree_refreshing.specs.Live.{live_below, live_among}
 use Rattle.pz_rules.specs.Short.{IsShort}
-use Rattle.pz_tree_refreshing.specs.Refreshing.{HasRoom, IsRefreshed, RefreshRule, IsSoon, Timely, AllTimely}
+use Rattle.pz_tree_standing.specs.Soon.{HasRoom, IsSoon}
+use Rattle.pz_tree_refreshing.specs.Refreshing.{IsRefreshed, RefreshRule, Timely, AllTimely}
 use Rattle.pz_tree_refreshing.specs.devices.Asked.{IsAsked, AskRule}
 use Rattle.pz_tree_refreshing.specs.devices.Levels.{IsPutBack, NodeRefreshed, NodeRule, AtRule, written, KidsTended, KidsShort, AreBare, KidsRefreshed, KidsRule}
 use Rattle.pz_tree_refreshing.proofs.Gates.{may_ask}
-use Rattle.pz_tree_refreshing.proofs.Short.{least_soon, short_soon, short_kid, unasked_kid}
+use Rattle.pz_tree_standing.proofs.Soon.{least_soon, short_soon, short_kid, unasked_kid}
 
 -- ---------------------------------------------------------- what is so of a node is so of each child
 

@@ -26,7 +26,7 @@ use Rattle.pz_rules.specs.devices.Walk.{expiry, answered, trouble_of, sending}
 use Rattle.pz_part_queries.specs.Parcels.{Packs, packs, fails}
 use Rattle.pz_tree_standing.specs.devices.Tallies.{one, own_summary}
 use Rattle.pz_tree_nodes.specs.declared.kept.Kept.{Kept}
-use Rattle.pz_tree_refreshing.specs.Refreshing.{IsSoon}
+use Rattle.pz_tree_standing.specs.Soon.{IsSoon}
 use Rattle.pz_tree_refreshing.specs.devices.Asked.{SaysItself, DelaySays, delay_summary, kept_of_send}
 
 not_over : (n : ℕ) → eqb (suc n) 0 ≡ false

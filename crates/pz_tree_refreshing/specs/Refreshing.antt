@@ -1,25 +1,17 @@
 -- What becomes of nodes whose parts are asked again.
-use Rattle.std.specs.Prelude.{◌≡◌, ◌<◌, ◌≤◌, ◌+◌, ◌*◌, ◌^◌, ℕ, suc, true, Option, Some, None}
+use Rattle.std.specs.Prelude.{◌≡◌, ◌≤◌, ◌+◌, ◌*◌, ℕ, suc, true}
 use Rattle.pz_nodes_shapes.specs.Rose.{node, none, gone, more, Map, root, payload, has, Stands}
 use Rattle.pz_nodes_shapes.specs.Change.{Becomes}
 use Rattle.pz_rules.specs.Settings.{Context}
 use Rattle.pz_rules.specs.Short.{IsShort}
 use Rattle.pz_tree_standing.specs.Heads.{Head, inner_clock}
 use Rattle.pz_tree_standing.specs.Reached.{reaches}
+use Rattle.pz_tree_standing.specs.Soon.{HasRoom, IsSoon}
 use Rattle.pz_tree_nodes.specs.declared.node.What.{What}
 use Rattle.pz_tree_nodes.specs.View.{Plant, Plants, head_view, term_in}
 use Rattle.pz_tree_nodes.specs.Tended.{Tended}
 use Rattle.pz_tree_nodes.specs.Fresh.{Fresh}
 use Rattle.pz_tree_refreshing.specs.Live.{live_nodes}
-
--- so much after what the clock shows is a moment of 128 bits
-abbrev pub HasRoom : ℕ → Type 0
-HasRoom c = c + 2 ^ 64 ≤ 2 ^ 128
-
--- it comes less than 2^64 clock units after this moment, if there is one
-abbrev pub IsSoon : ℕ → Option ℕ → Type 0
-IsSoon c None = Unit {0}
-IsSoon c (Some due) = due < c + 2 ^ 64
 
 abbrev mutual
   -- where its clock shows c: what it keeps is due soon, and so is what its children keep as far as they are active

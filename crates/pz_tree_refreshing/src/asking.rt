@@ -9,7 +9,7 @@ ghost use Rattle.pz_part_queries.specs.Standpoints.{Knows, seen_from};
 ghost use Rattle.pz_tree_standing.specs.Asked.{statement_asks};
 ghost use Rattle.pz_tree_nodes.specs.Keeping.{kept_none};
 ghost use Rattle.pz_tree_nodes.specs.View.{head_view};
-ghost use Rattle.pz_tree_refreshing.specs.Refreshing.{HasRoom};
+ghost use Rattle.pz_tree_standing.specs.Soon.{HasRoom};
 ghost use Rattle.pz_tree_refreshing.specs.devices.Asked as device;
 ghost use Rattle.pz_tree_refreshing.specs.devices.Asked.{IsGated, IsAnswer, SaysItself, DelaySays, kept_of_send, AskRule};
 

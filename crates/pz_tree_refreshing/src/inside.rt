@@ -5,7 +5,6 @@ ghost use Rattle.pz_clock.specs.Shifts.{local};
 ghost use Rattle.pz_tree_standing.specs.Heads.{first_only, inner_clock, inner_frame};
 ghost use Rattle.pz_tree_standing.specs.Reached as reached;
 ghost use Rattle.pz_tree_nodes.specs.View.{head_view};
-ghost use Rattle.pz_tree_refreshing.specs.devices.Reached as devices;
 
 use pz_clock::Shift;
 use pz_state::FrameId;
@@ -78,7 +77,7 @@ pub fn clock_inside(head: &Head, number: usize, clock: u128) -> u128
 
 /// By how much the clock of this child is behind that of the node, where it is active.
 pub fn behind_inside(head: &Head, number: usize) -> u128
-    ensures { result ≡ devices.behind_inside (head_view head.now) number }
+    ensures { result ≡ reached.behind_inside (head_view head.now) number }
 {
     match head {
         Head::Guard { shift, .. } => shift.behind(),

@@ -17,7 +17,7 @@ use Rattle.pz_tree_nodes.specs.View.{Plant, Plants, head_view, shapes_of, term_i
 use Rattle.pz_tree_nodes.specs.Tended.{Tended, TendedOption}
 use Rattle.pz_tree_nodes.specs.Planting.{root_of}
 use Rattle.pz_rules.specs.Short.{IsShort}
-use Rattle.pz_tree_refreshing.specs.Refreshing.{HasRoom}
+use Rattle.pz_tree_standing.specs.Soon.{HasRoom}
 use Rattle.pz_tree_regrowing.specs.devices.Keeping.{kept_in, kept_of_node, kept_behind}
 use Rattle.pz_tree_regrowing.specs.devices.Levels.{KidsTended, IsFree, IsShiftAt, IsNoShiftAt, runs_behind, IsPutOver, ShiftRule, StillRule, after}
 use Rattle.pz_tree_regrowing.proofs.LocalClocks.{thawed_within, thawed_local, runs_as}

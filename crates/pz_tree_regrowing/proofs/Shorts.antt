@@ -8,7 +8,7 @@ use Rattle.pz_rules.specs.Leaving.{around}
 use Rattle.pz_rules.specs.Short.{IsShort, AreShort}
 use Rattle.pz_rules.proofs.Opened.{residual_short}
 use Rattle.pz_tree_nodes.specs.Planting.{EndsInTime, EndInTime}
-use Rattle.pz_tree_refreshing.specs.Refreshing.{HasRoom}
+use Rattle.pz_tree_standing.specs.Soon.{HasRoom}
 
 -- ---------------------------------------------------------- they end in time
 

@@ -26,8 +26,8 @@ use Rattle.pz_tree_nodes.specs.Tended.{Tended}
 use Rattle.pz_tree_nodes.specs.Keeping.{IsMarked}
 use Rattle.pz_tree_nodes.proofs.Marks.{marked_alike}
 use Rattle.pz_rules.specs.Short.{IsShort}
-use Rattle.pz_tree_refreshing.specs.Refreshing.{HasRoom, IsSoon}
-use Rattle.pz_tree_refreshing.proofs.Short.{short_soon, clock_back}
+use Rattle.pz_tree_standing.specs.Soon.{HasRoom, IsSoon}
+use Rattle.pz_tree_standing.proofs.Soon.{short_soon, clock_back}
 use Rattle.pz_tree_regrowing.specs.devices.Keeping.{moved, kept_at, kept_all, kept_formed, IsPutBack}
 use Rattle.pz_tree_regrowing.specs.devices.Levels.{KidsTended, kid_terms}
 use Rattle.pz_tree_regrowing.proofs.Kids.{kids_whole, kids_marked, kids_fit, kids_rest}

@@ -15,7 +15,7 @@ use Rattle.pz_tree_nodes.specs.View.{Plant, term_in_option}
 use Rattle.pz_tree_nodes.specs.Tended.{TendedOption}
 use Rattle.pz_tree_nodes.specs.Planting.{root_of}
 use Rattle.pz_rules.specs.Short.{IsShort}
-use Rattle.pz_tree_refreshing.specs.Refreshing.{HasRoom}
+use Rattle.pz_tree_standing.specs.Soon.{HasRoom}
 use Rattle.pz_tree_regrowing.specs.Costs.{on_way, made_all, dropped_all}
 
 -- what a call works on: the nodes, the state, the frames that stand no longer and those that have opened, and the steps

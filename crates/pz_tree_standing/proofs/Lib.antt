@@ -3,6 +3,7 @@ pub mod Passing
 pub mod Still
 pub mod Onward
 pub mod Reached
+pub mod Soon
 pub mod Unwoken
 pub mod Depths
 pub mod Resting

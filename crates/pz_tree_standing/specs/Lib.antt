@@ -1,6 +1,7 @@
 pub mod Heads
 pub mod Standing
 pub mod Reached
+pub mod Soon
 pub mod Right
 pub mod Resting
 pub mod Whole

@@ -27,6 +27,17 @@ reaches (idle again s) i = is_first i || is_second i
 reaches (handling again s) i = is_second i
 reaches (shifted s) i = is_first i
 
+-- by how much the clock of this child is behind that of the node, where it is active
+abbrev pub first_behind : ℕ → ℕ → ℕ
+first_behind by zero = by
+first_behind by (suc i) = 0
+
+abbrev pub behind_inside : Head → ℕ → ℕ
+behind_inside (guarded e at s) i = s.behind
+behind_inside (idle again s) i = first_behind s.behind i
+behind_inside (shifted s) i = s.behind
+behind_inside h i = 0
+
 abbrev pub is_true : {E : Type 0} → Result Bool E → Bool
 is_true (Ok b) = b
 is_true (Err e) = false

@@ -11,7 +11,7 @@ use Rattle.pz_tree_standing.specs.Asked.{asks}
 use Rattle.pz_tree_standing.specs.Steady.{later}
 use Rattle.pz_tree_standing.specs.Heads.{Head, inner_clock}
 use Rattle.pz_tree_standing.specs.Standing.{terms_of, HeadFits}
-use Rattle.pz_tree_standing.specs.Reached.{reaches}
+use Rattle.pz_tree_standing.specs.Reached.{reaches, behind_inside}
 use Rattle.pz_tree_standing.specs.Right.{RightAll}
 use Rattle.pz_tree_nodes.specs.declared.kept.Kept.{Kept}
 use Rattle.pz_tree_nodes.specs.declared.node.What.{What}
@@ -20,9 +20,10 @@ use Rattle.pz_tree_nodes.specs.View.{Plant, Plants, shapes_of, term_in}
 use Rattle.pz_tree_nodes.specs.Tended.{Tended}
 use Rattle.pz_tree_nodes.specs.Fresh.{Fresh, AllFlagged}
 use Rattle.pz_rules.specs.Short.{IsShort, AreShort}
-use Rattle.pz_tree_refreshing.specs.Refreshing.{HasRoom, IsSoon, Timely, AllTimely, RefreshRule}
+use Rattle.pz_tree_standing.specs.Soon.{HasRoom, IsSoon}
+use Rattle.pz_tree_refreshing.specs.Refreshing.{Timely, AllTimely, RefreshRule}
 use Rattle.pz_tree_refreshing.specs.devices.Reached as reached
-use Rattle.pz_tree_refreshing.specs.devices.Reached.{reached_sum, Says, behind_inside}
+use Rattle.pz_tree_refreshing.specs.devices.Reached.{reached_sum, Says}
 use Rattle.pz_tree_refreshing.specs.devices.Levels.{IsBare, AreBare, KidsTended, IsLeft}
 use Rattle.pz_tree_elapsing.specs.declared.turning.Turn.{Turn}
 use Rattle.pz_tree_elapsing.specs.declared.turning.Turn.TheVariants.{Same, Shut, Opened}

@@ -20,7 +20,7 @@ use Rattle.pz_tree_standing.specs.Whole.{IsNoShift, HasParts}
 use Rattle.pz_tree_nodes.specs.declared.kept.Kept.{Kept}
 use Rattle.pz_tree_nodes.specs.Keeping.{HasFlags, kept_none}
 use Rattle.pz_rules.specs.Short.{IsShort, AreShort}
-use Rattle.pz_tree_refreshing.specs.Refreshing.{HasRoom, IsSoon}
+use Rattle.pz_tree_standing.specs.Soon.{HasRoom, IsSoon}
 use Rattle.pz_tree_refreshing.specs.devices.Reached.{reached_sum}
 use Rattle.pz_tree_elapsing.specs.declared.turning.Turn.{Turn}
 use Rattle.pz_tree_elapsing.specs.declared.turning.Turn.TheVariants.{Same, Shut, Opened}

@@ -18,7 +18,7 @@ use Rattle.pz_tree_standing.specs.Reached.{GateRight}
 use Rattle.pz_tree_standing.specs.Whole.{IsNoShift, HasParts}
 use Rattle.pz_tree_nodes.specs.declared.kept.Kept.{Kept}
 use Rattle.pz_tree_nodes.specs.Keeping.{kept_none}
-use Rattle.pz_tree_refreshing.specs.Refreshing.{HasRoom, IsSoon}
+use Rattle.pz_tree_standing.specs.Soon.{HasRoom, IsSoon}
 use Rattle.pz_tree_refreshing.specs.devices.Reached.{reached_sum}
 
 -- something may be asked at it or below it

@@ -8,7 +8,7 @@ use Rattle.pz_offer.specs.Summaries.{MayShift}
 use Rattle.pz_rules.specs.Settings.{Context}
 use Rattle.pz_tree_standing.specs.Heads.{Head, inner_clock}
 use Rattle.pz_tree_standing.specs.Standing.{terms_of, HeadFits}
-use Rattle.pz_tree_standing.specs.Reached.{reaches}
+use Rattle.pz_tree_standing.specs.Reached.{reaches, behind_inside}
 use Rattle.pz_tree_standing.specs.Right.{RightAll}
 use Rattle.pz_tree_standing.specs.Whole.{IsNoShift}
 use Rattle.pz_tree_nodes.specs.declared.kept.Kept.{Kept}
@@ -19,8 +19,9 @@ use Rattle.pz_tree_nodes.specs.Tended.{Tended}
 use Rattle.pz_tree_nodes.specs.Fresh.{Fresh, AllFlagged}
 use Rattle.pz_tree_refreshing.specs.Live.{live_below, live_among}
 use Rattle.pz_rules.specs.Short.{IsShort}
-use Rattle.pz_tree_refreshing.specs.Refreshing.{HasRoom, IsSoon, Timely, AllTimely}
-use Rattle.pz_tree_refreshing.specs.devices.Reached.{Says, behind_inside, later}
+use Rattle.pz_tree_standing.specs.Soon.{HasRoom, IsSoon}
+use Rattle.pz_tree_refreshing.specs.Refreshing.{Timely, AllTimely}
+use Rattle.pz_tree_refreshing.specs.devices.Reached.{Says, later}
 
 -- the topmost node is no shift node
 abbrev pub IsBare : Plant → Type 0

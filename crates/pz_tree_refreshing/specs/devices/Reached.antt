@@ -9,7 +9,7 @@ use Rattle.pz_tree_standing.specs.Heads as heads
 use Rattle.pz_tree_standing.specs.Heads.{Head}
 use Rattle.pz_tree_standing.specs.Reached.{reaches}
 use Rattle.pz_tree_nodes.specs.declared.kept.Kept.{Kept}
-use Rattle.pz_tree_refreshing.specs.Refreshing.{IsSoon}
+use Rattle.pz_tree_standing.specs.Soon.{IsSoon}
 
 abbrev pub added : {V : Type 0} → (V → V → V) → Bool → V → V → V
 added plus true v w = plus v w
@@ -26,17 +26,6 @@ pub record Says (a : Context) (c f : ℕ) (h : Head) (i : ℕ) (ts : Terms) (k :
   pub starts : k.starts ≡ reached_sum false ◌||◌ h (starts a f) i ts
   pub clocked : k.clocked ≡ reached_sum false ◌||◌ h (clocked a f) i ts
   pub soon : IsSoon c k.summary.due
-
--- by how much the clock of this child is behind that of the node, where it is active
-abbrev pub first_behind : ℕ → ℕ → ℕ
-first_behind by zero = by
-first_behind by (suc i) = 0
-
-abbrev pub behind_inside : Head → ℕ → ℕ
-behind_inside (heads.guarded e at s) i = s.behind
-behind_inside (heads.idle again s) i = first_behind s.behind i
-behind_inside (heads.shifted s) i = s.behind
-behind_inside h i = 0
 
 -- seen from a clock that is ahead by so much
 abbrev pub later : ℕ → Kept → Kept

@@ -25,7 +25,7 @@ use Rattle.pz_tree_nodes.specs.Tended.{Tended, TendedOption}
 use Rattle.pz_tree_nodes.specs.Planting.{root_of}
 use Rattle.pz_tree_regrowing.specs.Costs.{beside, made, dropped}
 use Rattle.pz_rules.specs.Short.{IsShort}
-use Rattle.pz_tree_refreshing.specs.Refreshing.{HasRoom}
+use Rattle.pz_tree_standing.specs.Soon.{HasRoom}
 use Rattle.pz_tree_regrowing.specs.Regrowing.{Work, InTime, at_work}
 use Rattle.pz_tree_regrowing.specs.devices.Keeping.{kept_in, kept_behind}
 
