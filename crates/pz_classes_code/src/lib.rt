@@ -15,7 +15,7 @@ mod step;
 pub use body::Body;
 pub use code::{Code, CodeForm, CodeLink, CodeSending};
 pub use literals::constant;
-pub use numbering::Numbering;
+pub use numbering::{Numbering, Places};
 pub use reserved::{is_array, is_object, is_primitive, is_unsupported};
 pub use resolving::{resolve_list, resolve_statements};
 pub use scope::Scope;

@@ -1,7 +1,7 @@
 ghost use Rattle.std.specs.Prelude.{◌≡◌, List, ℕ, None, Some, OnOk, if◌then◌else◌};
 ghost use Rattle.std.specs.Option.{option_or};
 ghost use Rattle.std.specs.Str.{bytes_eq};
-ghost use Rattle.pz_classes_code.specs.NumberIn.{number_in};
+ghost use Rattle.pz_classes_code.specs.NumberIn.{number_in, number_below};
 
 use indexmap::IndexMap;
 use pz_syntax::Name;
@@ -47,5 +47,27 @@ impl Numbering {
             self.map.insert(bytes.to_vec(alloc)?, number)?;
         }
         Ok(())
+    }
+}
+
+/// The numbers of names, as far as they are below a bound. Where the names of a list are numbered by their places, these
+/// are the places of the names that it begins with.
+#[derive(Clone, Copy)]
+pub struct Places<'a> {
+    pub numbering: &'a Numbering,
+    pub bound: u32,
+}
+
+impl Places<'_> {
+    /// The number of a name, if it has one below the bound.
+    pub fn get(&self, name: &[u8]) -> Option<u32>
+        ensures { result ≡ number_below self.now.bound self.now.numbering.now name.now }
+    {
+        let number = self.numbering.get(name)?;
+        if number < self.bound {
+            Some(number)
+        } else {
+            None
+        }
     }
 }

@@ -4,7 +4,7 @@ ghost use Rattle.std.specs.Prelude.{◌≡◌, IfOk};
 ghost use Rattle.pz_classes_code.specs.Resolution as spec;
 ghost use Rattle.pz_classes_code.specs.ScopeView.{scope_view};
 
-use crate::{Numbering, Slot, is_array};
+use crate::{Numbering, Places, Slot, is_array};
 use pz_items::Items;
 use pz_syntax::{Id, Name};
 use pz_value::ClassId;
@@ -18,8 +18,8 @@ const UNKNOWN: u32 = u32::MAX;
 #[derive(Drop)]
 pub struct Scope<'a> {
     pub locals: &'a Numbering,
-    pub shared: &'a Numbering,
-    pub ports: &'a Numbering,
+    pub shared: Places<'a>,
+    pub ports: Places<'a>,
     pub classes: &'a Numbering,
 }
 
