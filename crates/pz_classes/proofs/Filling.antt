@@ -1,8 +1,8 @@
 -- The table of what classes have, filled in preorder.
-use Rattle.std.proofs.Common.{◌≡◌, refl, sym, ap, ◌∙◌, subst, ℕ, suc, ◌+◌, ◌<◌, ◌≤◌, List, [], ◌∷◌, ◌++◌, length, take, Option, Some, None, slice_get, get_or, arith, ◌⊎◌, inl, inr}
+use Rattle.std.proofs.Common.{◌≡◌, refl, sym, ap, ◌∙◌, subst, ℕ, suc, ◌+◌, ◌<◌, ◌≤◌, List, [], ◌∷◌, ◌++◌, length, take, Option, Some, slice_get, get_or, arith, ◌⊎◌, inl, inr}
 use Rattle.std.proofs.Math.ListN.{set}
 use Rattle.std.specs.List.{Contains}
-use Rattle.std.specs.Option.{option_map_or, IfSome}
+use Rattle.std.specs.Option.{option_map_or}
 use Rattle.std.proofs.lemmas.List.{map_more, take_all, length-map, get_or-map}
 use Rattle.std.proofs.lemmas.List.Elements.{Contains-push_cases}
 use Rattle.std.proofs.lemmas.Option.{slice_get_read, slice_get_within}
@@ -17,7 +17,6 @@ use Rattle.pz_classes.specs.Ancestors.{parent, ancestors}
 use Rattle.pz_classes.specs.declared.members.Members.{Members}
 use Rattle.pz_classes.specs.devices.Inherited.{HasMembers, AddsAt, AreMembers, inherited_in}
 use Rattle.pz_classes.proofs.Acyclic.{above}
-use Rattle.pz_classes.proofs.Belongs.{parent_within}
 use Rattle.pz_classes.proofs.Walked.{behind_its_parent}
 use Rattle.pz_classes.proofs.Inheriting.{HasAt, inherits, grows, filled, kept}
 
@@ -58,10 +57,10 @@ module _ (m : ModelTree) (visits : List Visit) (count : ℕ) (counted : count �
         by_place (inl before) = kept m table v.class x room has c (are c before)
         by_place (inr same) = subst (HasAt m (set table v.class x)) same (filled m table v.class x room has)
 
-    pub filled_step : (flat : (c : ℕ) → GoesRound (parent m) c → ⊥) (table seen : List Members) (parents : List (Option ℕ)) (x : Members) → seen ≡ table → ((c : ℕ) → parent_in parents c ≡ parent m c)
-        → length table ≡ count → AreFilled table i → AddsAt m v.class (inherited_in seen (parent_in parents v.class)) x → AreFilled (set table v.class x) (i + 1)
-    filled_step flat table seen parents x same extends sized are adds =
-        filled_further table x (let inside = is_class in omega arith) (has_all flat table x are (rw (← same, ← extends v.class) adds)) are
+    pub filled_step : (flat : (c : ℕ) → GoesRound (parent m) c → ⊥) (table : List Members) (parents : List (Option ℕ)) (x : Members) → ((c : ℕ) → parent_in parents c ≡ parent m c)
+        → length table ≡ count → AreFilled table i → AddsAt m v.class (inherited_in table (parent_in parents v.class)) x → AreFilled (set table v.class x) (i + 1)
+    filled_step flat table parents x extends sized are adds =
+        filled_further table x (let inside = is_class in omega arith) (has_all flat table x are (rw (← extends v.class) adds)) are
 
   pub all_filled : (table : List Members) (i : ℕ) → length table ≡ count → length visits ≤ i → AreFilled table i → AreMembers m table
   all_filled table i sized past are = record {
@@ -71,14 +70,6 @@ module _ (m : ModelTree) (visits : List Visit) (count : ℕ) (counted : count �
         (are c (subst (λ (vs : List Visit). Contains (visited vs) c) (sym (take_all i visits past)) (walk.whole c (omega arith)))).has x at;
   }
 
--- a parent has its place in the table
-pub parent_below : (m : ModelTree) (c count : ℕ) (o : Option ℕ) → o ≡ parent m c → count ≡ suc (length m.decls) → IfSome o (λ p. p < count)
-parent_below m c count None up counted = tt
-parent_below m c count (Some p) up counted = let within : p < suc (length m.decls) = parent_within m c p (sym up) in omega arith
-
 -- one number for Array and one for each declaration
 pub counted_with : (model : Model) → length model.decls + 1 ≡ suc (length (model_view model).decls)
 counted_with model = let same : length (model_view model).decls ≡ length model.decls = length-map model.decls decl_view in omega arith
-
-pub fits_in : (c count room : ℕ) → c < count → room ≡ count → c < room
-fits_in c count room below is = omega arith

@@ -21,6 +21,8 @@ mod Walked
 pub mod Rounds
 mod Inheriting
 mod Filling
+mod Extending
+mod Marking
 mod Building
 pub mod Turned
 pub mod Elements

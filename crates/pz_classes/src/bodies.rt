@@ -17,7 +17,8 @@ ghost use Rattle.pz_classes.specs.devices.Rows.{row_view, rows};
 
 use crate::Body;
 use crate::entry::Entry;
-use crate::members::{Members, push_groups, push_section};
+use crate::front::Front;
+use crate::members::{push_groups, push_section};
 use crate::surroundings::{Surroundings, count, places_of, surround};
 use pz_classes_code::{Numbering, Scope, resolve_list, resolve_statements};
 use pz_items::Items;
@@ -134,7 +135,7 @@ fn push_process_bodies(
 fn push_bodies(
     alloc: Global,
     classes: &Numbering,
-    members: &Members,
+    members: &Front,
     decl: &Decl,
     bodies: &mut Items<Body>,
 ) -> Result<(), AllocError>
@@ -145,18 +146,18 @@ fn push_bodies(
         map body_view bodies.new ≡ map body_view bodies.old ++ spec.own_bodies m c
         (decl_view decl.now)) }
 {
-    let ports = members.ports.as_slice();
+    let ports = members.ports();
     match decl {
         Decl::Data(class) => match &class.methods {
             Some(methods) => {
-                let around = surround(alloc, members.fields.as_slice(), ports)?;
+                let around = surround(alloc, members.fields(), ports)?;
                 push_data_bodies(alloc, &around, classes, methods.as_slice(), bodies)
             }
             None => Ok(()),
         },
         Decl::Process(class) => match &class.methods {
             Some(methods) => {
-                let around = surround(alloc, members.variables.as_slice(), ports)?;
+                let around = surround(alloc, members.variables(), ports)?;
                 push_process_bodies(alloc, &around, classes, methods.as_slice(), bodies)
             }
             None => Ok(()),

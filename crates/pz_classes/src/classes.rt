@@ -29,7 +29,7 @@ use crate::checking::least_violation;
 use crate::declarations::declared_name;
 use crate::entry::Entry;
 use crate::finding::{find, find_start};
-use crate::members::members_of_classes;
+use crate::sharing::members_of_classes;
 use crate::tabling::entries_of;
 use crate::{Body, BuildError, Counts, MethodId, Step};
 use pz_classes_code::Numbering;
@@ -177,7 +177,7 @@ impl Classes {
             result.now ≡ spelled (members.fields m class.0) }
         ensures few { length result.now < 2 ^ 32 }
     {
-        self.entry(class).members.fields.as_slice()
+        self.entry(class).members.fields()
     }
 
     /// The parameters and variables of a process class, those of its ancestors first.
@@ -186,7 +186,7 @@ impl Classes {
         ensures { (m : ModelTree) → AreClasses m self.now →
             result.now ≡ spelled (members.variables m class.0) }
     {
-        self.entry(class).members.variables.as_slice()
+        self.entry(class).members.variables()
     }
 
     /// The ports of a class, those of its ancestors first.
@@ -195,7 +195,7 @@ impl Classes {
         ensures { (m : ModelTree) → AreClasses m self.now →
             result.now ≡ spelled (members.ports m class.0) }
     {
-        self.entry(class).members.ports.as_slice()
+        self.entry(class).members.ports()
     }
 
     /// The method of a data class with this name and number of inputs: that of the nearest ancestor

@@ -3,13 +3,13 @@
 ghost use Rattle.std.specs.Prelude.{◌<◌, ◌^◌, length};
 
 use crate::Step;
-use crate::members::Members;
+use crate::front::Front;
 use crate::method_index::Methods;
 
 /// A class: what it inherits and has of its own, and the `init` and the methods that it declares.
 pub(crate) struct Entry {
     pub(crate) parent: Option<u32>,
-    pub(crate) members: Members,
+    pub(crate) members: Front,
     pub(crate) start: Option<Step>,
     pub(crate) methods: Methods,
     ghost few_fields: { length members.fields < 2 ^ 32 },

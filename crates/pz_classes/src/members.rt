@@ -1,18 +1,14 @@
 // The fields, variables and ports of a class.
 
-ghost use Rattle.std.specs.Prelude.{◌≡◌, ◌<◌, ◌+◌, ◌++◌, ℕ, List, [], length, IfOk, OnOk, IfSome};
+ghost use Rattle.std.specs.Prelude.{◌≡◌, ◌++◌, [], IfOk, OnOk};
 ghost use Rattle.std.specs.Option.{unwrap_or};
 ghost use Rattle.pz_syntax.specs.ClassView.{decl_view, model_view};
 ghost use Rattle.pz_classes.specs.Members.{spelled, grouped, section};
-ghost use Rattle.pz_classes_lineage.specs.Parents.{parent_in};
-ghost use Rattle.pz_classes_lineage.specs.Reached.{GoesRound};
-ghost use Rattle.pz_classes_lineage.specs.Preorder.{IsPreorder};
-ghost use Rattle.pz_classes.specs.Ancestors.{parent};
-ghost use Rattle.pz_classes.specs.devices.Inherited.{Adds, AddsAt, AreMembers, Joins, none_yet, inherited_in};
+ghost use Rattle.pz_classes.specs.devices.Inherited.{Adds, AddsAt, none_yet};
+ghost use Rattle.pz_classes.specs.devices.Fronts.{front, lengths};
 
-use crate::ancestry::parent_at;
 use crate::declarations::declaration;
-use pz_classes_lineage::Visit;
+use crate::front::first;
 use pz_items::Items;
 use pz_syntax::{Decl, Id, Model, Name, VarGroup};
 use std::alloc::{AllocError, Global};
@@ -38,14 +34,23 @@ impl Drop for Members {
     }
 }
 
-/// The only error is want of memory.
-fn push_copies(names: &mut Items<Name>, more: &[Name]) -> Result<(), AllocError>
-    ensures { OnOk result (names.new ≡ names.old ++ more.now) }
+/// How many fields, variables and ports there are.
+#[derive(Clone, Copy, PartialEq, Eq)]
+pub(crate) struct Lengths {
+    pub(crate) fields: usize,
+    pub(crate) variables: usize,
+    pub(crate) ports: usize,
+}
+
+/// The same names again. The only error is want of memory.
+fn copies(alloc: Global, names: &[Name]) -> Result<Items<Name>, AllocError>
+    ensures { IfOk result (λ copies. copies ≡ names.now) }
 {
-    for name in more {
-        names.push(name.copy()?)?;
+    let mut copies = Items::with_capacity(alloc, names.len())?;
+    for name in names {
+        copies.push(name.copy()?)?;
     }
-    Ok(())
+    Ok(copies)
 }
 
 fn push_ids(names: &mut Items<Name>, ids: &[Id]) -> Result<(), AllocError>
@@ -89,7 +94,7 @@ fn push_optional(names: &mut Items<Name>, ids: &Option<Items<Id>>) -> Result<(),
 
 impl Members {
     /// No name yet. Takes no memory.
-    fn new(alloc: Global) -> Members
+    pub(crate) fn new(alloc: Global) -> Members
         ensures { result ≡ none_yet }
     {
         Members {
@@ -99,19 +104,29 @@ impl Members {
         }
     }
 
-    /// Adds what the class of this number has, where the table has it; nothing where there is none.
-    /// The only error is want of memory.
-    fn add_inherited(&mut self, table: &[Members], parent: Option<u32>) -> Result<(), AllocError>
-        requires { IfSome parent (λ p. p < length table.now) }
-        ensures { OnOk result (Joins (inherited_in table.now parent) self.old self.new) }
+    /// How many there are.
+    pub(crate) fn lengths(&self) -> Lengths
+        ensures { result ≡ lengths self.now }
     {
-        let Some(class) = parent else {
-            return Ok(());
-        };
-        let above = &table[class as usize];
-        push_copies(&mut self.fields, above.fields.as_slice())?;
-        push_copies(&mut self.variables, above.variables.as_slice())?;
-        push_copies(&mut self.ports, above.ports.as_slice())
+        Lengths {
+            fields: self.fields.len(),
+            variables: self.variables.len(),
+            ports: self.ports.len(),
+        }
+    }
+
+    /// The front with these lengths again. The only error is want of memory.
+    pub(crate) fn copy_front(&self, alloc: Global, lengths: Lengths) -> Result<Members, AllocError>
+        ensures { IfOk result (λ copy. copy ≡ front lengths self.now) }
+    {
+        let fields = copies(alloc, first(self.fields.as_slice(), lengths.fields))?;
+        let variables = copies(alloc, first(self.variables.as_slice(), lengths.variables))?;
+        let ports = copies(alloc, first(self.ports.as_slice(), lengths.ports))?;
+        Ok(Members {
+            fields,
+            variables,
+            ports,
+        })
     }
 
     /// Adds what the class of this declaration has of its own. The only error is want of memory.
@@ -131,7 +146,7 @@ impl Members {
     }
 
     /// Adds what the class of this number has of its own. The only error is want of memory.
-    fn add_own_of(&mut self, model: &Model, class: u32) -> Result<(), AllocError>
+    pub(crate) fn add_own_of(&mut self, model: &Model, class: u32) -> Result<(), AllocError>
         ensures { OnOk result (AddsAt (model_view model.now) class self.old self.new) }
     {
         match declaration(model, class) {
@@ -139,57 +154,4 @@ impl Members {
             None => Ok(()),
         }
     }
-}
-
-/// What the class of this number has, where its parent's place in the table is filled: what it
-/// inherits, and its own behind that. The only error is want of memory.
-fn members_at(
-    alloc: Global,
-    model: &Model,
-    parents: &[Option<u32>],
-    table: &[Members],
-    class: u32,
-) -> Result<Members, AllocError>
-    requires { IfSome (parent_in parents.now class) (λ p. p < length table.now) }
-    ensures { IfOk result (AddsAt (model_view model.now) class
-        (inherited_in table.now (parent_in parents.now class))) }
-{
-    let mut members = Members::new(alloc);
-    members.add_inherited(table, parent_at(parents, class))?;
-    members.add_own_of(model, class)?;
-    Ok(members)
-}
-
-/// A place for each of so many classes. The only error is want of memory.
-fn blank_table(alloc: Global, count: usize) -> Result<Vec<Members>, AllocError>
-    ensures { IfOk result (λ table. length table.items ≡ count) }
-{
-    let mut table = Vec::new(alloc);
-    for _class in 0..count {
-        table.push(Members::new(alloc))?;
-    }
-    Ok(table)
-}
-
-/// What each class has, at its number. The classes come in an order in which each stands behind its
-/// parent. The only error is want of memory.
-pub(crate) fn members_of_classes(
-    alloc: Global,
-    model: &Model,
-    parents: &[Option<u32>],
-    visits: &[Visit],
-) -> Result<Vec<Members>, AllocError>
-    requires extending { (c : ℕ) → parent_in parents.now c ≡ parent (model_view model.now) c }
-    requires counted { length parents.now ≡ length model.now.decls + 1 }
-    requires preorder { IsPreorder (parent (model_view model.now))
-        (length model.now.decls + 1) visits.now }
-    requires acyclic { (c : ℕ) → GoesRound (parent (model_view model.now)) c → ⊥ }
-    ensures { IfOk result (λ table. AreMembers (model_view model.now) table.items) }
-{
-    let mut table = blank_table(alloc, parents.len())?;
-    for visit in visits {
-        let members = members_at(alloc, model, parents, table.as_slice(), visit.class)?;
-        table[visit.class as usize] = members;
-    }
-    Ok(table)
 }

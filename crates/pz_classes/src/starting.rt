@@ -14,7 +14,7 @@ ghost use Rattle.pz_classes.specs.Starts.{own_start, own_call};
 ghost use Rattle.pz_classes.specs.devices.Surrounding.{scope_around, Numbers};
 
 use crate::declarations::declaration;
-use crate::members::Members;
+use crate::front::Front;
 use crate::surroundings::{Surroundings, surround};
 use crate::{Code, Step, StepForm};
 use pz_classes_code::{Numbering, Scope, resolve_list};
@@ -77,7 +77,7 @@ pub(crate) fn start_at(
     alloc: Global,
     model: &Model,
     classes: &Numbering,
-    members: &Members,
+    members: &Front,
     class: u32,
 ) -> Result<Option<Step>, AllocError>
     requires numbered { Numbers (model_view model.now) classes.now }
@@ -89,11 +89,7 @@ pub(crate) fn start_at(
     match declared_start(model, class) {
         None => Ok(None),
         Some(start) => {
-            let around = surround(
-                alloc,
-                members.variables.as_slice(),
-                members.ports.as_slice(),
-            )?;
+            let around = surround(alloc, members.variables(), members.ports())?;
             Ok(Some(start_call(alloc, &around, classes, start)?))
         }
     }

@@ -17,7 +17,7 @@ ghost use Rattle.pz_classes.specs.devices.Rows.{row, rows, row_view};
 use crate::ancestry::parent_at;
 use crate::declarations::declaration;
 use crate::entry::Entry;
-use crate::members::Members;
+use crate::front::Front;
 use crate::method_index::Methods;
 use crate::methods::methods_of;
 use crate::starting::start_at;
@@ -48,7 +48,7 @@ fn entry_of(
     parents: &[Option<u32>],
     class: u32,
     first: u32,
-    members: Members,
+    members: Front,
 ) -> Result<Entry, AllocError>
     requires numbered { Numbers (model_view model.now) numbering.now }
     requires extending { (c : ℕ) → parent_in parents.now c ≡ parent (model_view model.now) c }
@@ -80,7 +80,7 @@ pub(crate) fn entries_of(
     model: &Model,
     numbering: &Numbering,
     parents: &[Option<u32>],
-    table: Vec<Members>,
+    table: Vec<Front>,
 ) -> Result<Items<Entry>, AllocError>
     requires numbered { Numbers (model_view model.now) numbering.now }
     requires extending { (c : ℕ) → parent_in parents.now c ≡ parent (model_view model.now) c }

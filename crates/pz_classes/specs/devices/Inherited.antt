@@ -26,12 +26,6 @@ none_yet = record { fields = []; variables = []; ports = [] }
 abbrev pub inherited_in : List Members → Option ℕ → Members
 inherited_in table parent = unwrap_or (option_and_then (slice_get table) parent) none_yet
 
--- these come behind what is there
-pub record Joins (more old new : Members) : Type 0 where
-  pub fields : new.fields ≡ old.fields ++ more.fields
-  pub variables : new.variables ≡ old.variables ++ more.variables
-  pub ports : new.ports ≡ old.ports ++ more.ports
-
 -- what the class of this number has of its own comes last
 pub record AddsAt (m : ModelTree) (c : ℕ) (old new : Members) : Type 0 where
   pub fields : new.fields ≡ old.fields ++ spelled (option_map_or own_fields (declaration m c) [])

@@ -1,4 +1,4 @@
-use Rattle.std.proofs.Common.{◌≡◌, ap, ◌∙◌, List, [], rules}
+use Rattle.std.proofs.Common.{◌≡◌, ap, ◌∙◌, [], rules}
 use Rattle.pz_syntax.specs.Statements.{call}
 use Rattle.pz_syntax.specs.ExpressionView as tree
 use Rattle.pz_classes_code.specs.CodeView as code
