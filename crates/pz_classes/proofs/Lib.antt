@@ -8,11 +8,11 @@ mod Rows
 mod Worked
 mod Agreeing
 mod Scopes
+mod Places
 mod Belongs
 mod Counting
 mod Overloads
 mod Numbered
-mod OwnBodies
 mod Reaching
 mod Merely
 mod InstanceClasses

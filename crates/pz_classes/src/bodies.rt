@@ -19,7 +19,7 @@ use crate::Body;
 use crate::entry::Entry;
 use crate::front::Front;
 use crate::members::{push_groups, push_section};
-use crate::surroundings::{Surroundings, count, places_of, surround};
+use crate::surroundings::{Surroundings, count, places_of};
 use pz_classes_code::{Numbering, Scope, resolve_list, resolve_statements};
 use pz_items::Items;
 use pz_syntax::{DataMethod, Decl, Model, Name, ProcessMethod};
@@ -50,7 +50,7 @@ fn process_names(alloc: Global, method: &ProcessMethod) -> Result<Items<Name>, A
 
 fn data_body(
     alloc: Global,
-    around: &Surroundings,
+    around: &Surroundings<'_>,
     classes: &Numbering,
     method: &DataMethod,
 ) -> Result<Body, AllocError>
@@ -62,8 +62,8 @@ fn data_body(
     let places = places_of(alloc, names.as_slice())?;
     let scope = Scope {
         locals: &places,
-        shared: &around.shared,
-        ports: &around.ports,
+        shared: around.shared,
+        ports: around.ports,
         classes,
     };
     let code = resolve_list(alloc, &scope, method.body.as_slice())?;
@@ -73,7 +73,7 @@ fn data_body(
 
 fn process_body(
     alloc: Global,
-    around: &Surroundings,
+    around: &Surroundings<'_>,
     classes: &Numbering,
     method: &ProcessMethod,
 ) -> Result<Body, AllocError>
@@ -85,8 +85,8 @@ fn process_body(
     let places = places_of(alloc, names.as_slice())?;
     let scope = Scope {
         locals: &places,
-        shared: &around.shared,
-        ports: &around.ports,
+        shared: around.shared,
+        ports: around.ports,
         classes,
     };
     let stmts = resolve_statements(alloc, &scope, method.body.as_slice())?;
@@ -96,7 +96,7 @@ fn process_body(
 
 fn push_data_bodies(
     alloc: Global,
-    around: &Surroundings,
+    around: &Surroundings<'_>,
     classes: &Numbering,
     methods: &[DataMethod],
     bodies: &mut Items<Body>,
@@ -114,7 +114,7 @@ fn push_data_bodies(
 
 fn push_process_bodies(
     alloc: Global,
-    around: &Surroundings,
+    around: &Surroundings<'_>,
     classes: &Numbering,
     methods: &[ProcessMethod],
     bodies: &mut Items<Body>,
@@ -146,18 +146,17 @@ fn push_bodies(
         map body_view bodies.new ≡ map body_view bodies.old ++ spec.own_bodies m c
         (decl_view decl.now)) }
 {
-    let ports = members.ports();
     match decl {
         Decl::Data(class) => match &class.methods {
             Some(methods) => {
-                let around = surround(alloc, members.fields(), ports)?;
+                let around = members.around_data();
                 push_data_bodies(alloc, &around, classes, methods.as_slice(), bodies)
             }
             None => Ok(()),
         },
         Decl::Process(class) => match &class.methods {
             Some(methods) => {
-                let around = surround(alloc, members.variables(), ports)?;
+                let around = members.around_process();
                 push_process_bodies(alloc, &around, classes, methods.as_slice(), bodies)
             }
             None => Ok(()),

@@ -2,7 +2,7 @@ ghost use Rattle.std.specs.Prelude.{◌≡◌, ◌<◌, ◌+◌, ◌^◌, List, 
 ghost use Rattle.std.specs.Prelude.{Some, slice_get};
 ghost use Rattle.std.specs.Option.{option_map, option_and_then, option_copied};
 ghost use Rattle.pz_classes_code.specs.StepView as step;
-ghost use Rattle.pz_classes.specs.Bodies.{bodies};
+ghost use Rattle.pz_classes.specs.Bodies.{bodies, place_in};
 ghost use Rattle.pz_classes.specs.BodyView.{body_view};
 ghost use Rattle.pz_classes.specs.Starts.{init};
 ghost use Rattle.pz_syntax.specs.Classes.{ModelTree};
@@ -196,6 +196,17 @@ impl Classes {
             result.now ≡ spelled (members.ports m class.0) }
     {
         self.entry(class).members.ports()
+    }
+
+    /// The number of the first port of a class that has this name, from 0, those of its ancestors
+    /// first. None where it has none.
+    pub fn port(&self, class: ClassId, name: &[u8]) -> Option<u32>
+        requires { HasClass self.now class }
+        ensures { (m : ModelTree) → AreClasses m self.now →
+            result ≡ place_in (spelled (members.ports m class.0)) name.now }
+    {
+        let entry = self.entry(class);
+        entry.members.port_places().get(name)
     }
 
     /// The method of a data class with this name and number of inputs: that of the nearest ancestor

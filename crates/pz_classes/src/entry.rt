@@ -1,6 +1,6 @@
 // What is kept of a class.
 
-ghost use Rattle.std.specs.Prelude.{◌<◌, ◌^◌, length};
+ghost use Rattle.pz_classes.specs.devices.Inherited.{AreFew};
 
 use crate::Step;
 use crate::front::Front;
@@ -12,7 +12,7 @@ pub(crate) struct Entry {
     pub(crate) members: Front,
     pub(crate) start: Option<Step>,
     pub(crate) methods: Methods,
-    ghost few_fields: { length members.fields < 2 ^ 32 },
+    ghost few: { AreFew members },
 }
 
 // Written out, so that it is proved once, here, and not in each function that drops one.

@@ -14,6 +14,7 @@ mod finding;
 mod front;
 mod instances;
 pub mod laws;
+mod line;
 mod marks;
 mod members;
 mod method_id;

@@ -8,7 +8,7 @@ ghost use Rattle.pz_classes.specs.devices.Inherited.{Adds, AddsAt, none_yet};
 ghost use Rattle.pz_classes.specs.devices.Fronts.{front, lengths};
 
 use crate::declarations::declaration;
-use crate::front::first;
+use crate::line::first;
 use pz_items::Items;
 use pz_syntax::{Decl, Id, Model, Name, VarGroup};
 use std::alloc::{AllocError, Global};

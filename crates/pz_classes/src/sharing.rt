@@ -10,6 +10,7 @@ ghost use Rattle.pz_classes.specs.devices.Inherited.{AreMembers};
 ghost use Rattle.pz_classes.specs.devices.Fronts.{marked, IsMark};
 
 use crate::front::Front;
+use crate::line::Line;
 use crate::marks::{Mark, mark_classes};
 use crate::members::Members;
 use pz_classes_lineage::Visit;
@@ -17,13 +18,21 @@ use pz_items::Shared;
 use pz_syntax::Model;
 use std::alloc::{AllocError, Global};
 
+/// The line of these names, where several can own it. The only error is want of memory.
+fn shared_line(alloc: Global, names: Members) -> Result<Shared<Line>, AllocError>
+    ensures { IfOk result (λ line. line ≡ names) }
+{
+    let line = Line::new(alloc, names)?;
+    Shared::new(alloc, line)
+}
+
 /// The lines, each where several can own it. The only error is want of memory.
-fn share_lines(alloc: Global, lines: Vec<Members>) -> Result<Vec<Shared<Members>>, AllocError>
+fn share_lines(alloc: Global, lines: Vec<Members>) -> Result<Vec<Shared<Line>>, AllocError>
     ensures { IfOk result (λ shared. shared.items ≡ lines.items) }
 {
     let mut shared = Vec::new(alloc);
     for line in lines {
-        shared.push(Shared::new(alloc, line)?)?;
+        shared.push(shared_line(alloc, line)?)?;
     }
     Ok(shared)
 }
@@ -31,7 +40,7 @@ fn share_lines(alloc: Global, lines: Vec<Members>) -> Result<Vec<Shared<Members>
 /// What stands before each mark. The only error is want of memory.
 fn fronts_at(
     alloc: Global,
-    lines: &[Shared<Members>],
+    lines: &[Shared<Line>],
     marks: &[Mark],
 ) -> Result<Vec<Front>, AllocError>
     requires { All (IsMark lines.now) marks.now }

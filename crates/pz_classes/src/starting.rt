@@ -15,7 +15,7 @@ ghost use Rattle.pz_classes.specs.devices.Surrounding.{scope_around, Numbers};
 
 use crate::declarations::declaration;
 use crate::front::Front;
-use crate::surroundings::{Surroundings, surround};
+use crate::surroundings::Surroundings;
 use crate::{Code, Step, StepForm};
 use pz_classes_code::{Numbering, Scope, resolve_list};
 use pz_items::{Items, Shared};
@@ -36,7 +36,7 @@ fn declared_start(model: &Model, class: u32) -> Option<&Start>
 /// The call that an `init` names, without results.
 fn start_call(
     alloc: Global,
-    around: &Surroundings,
+    around: &Surroundings<'_>,
     classes: &Numbering,
     start: &Start,
 ) -> Result<Step, AllocError>
@@ -46,8 +46,8 @@ fn start_call(
     let none = Numbering::new(alloc);
     let scope = Scope {
         locals: &none,
-        shared: &around.shared,
-        ports: &around.ports,
+        shared: around.shared,
+        ports: around.ports,
         classes,
     };
     let args = resolve_list(alloc, &scope, start.args.as_slice())?;
@@ -89,7 +89,7 @@ pub(crate) fn start_at(
     match declared_start(model, class) {
         None => Ok(None),
         Some(start) => {
-            let around = surround(alloc, members.variables(), members.ports())?;
+            let around = members.around_process();
             Ok(Some(start_call(alloc, &around, classes, start)?))
         }
     }

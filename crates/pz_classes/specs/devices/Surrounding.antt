@@ -3,7 +3,7 @@ use Rattle.std.specs.Prelude.{◌≡◌, ℕ, List}
 use Rattle.pz_syntax.specs.declared.names.Id.{Id}
 use Rattle.pz_syntax.specs.Classes.{ModelTree}
 use Rattle.pz_classes_code.specs.declared.numbering.Numbering.{Numbering}
-use Rattle.pz_classes_code.specs.NumberIn.{number_in}
+use Rattle.pz_classes_code.specs.NumberIn.{number_in, number_below}
 use Rattle.pz_classes_code.specs.Resolution.{Scope}
 use Rattle.pz_classes.specs.Numbers.{class}
 use Rattle.pz_classes.specs.Members.{spelled}
@@ -14,8 +14,8 @@ use Rattle.pz_classes.specs.declared.surroundings.Surroundings.{Surroundings}
 abbrev pub scope_around : Surroundings → Numbering → List Id → Scope
 scope_around around classes locals = record {
   locals = place_in (spelled locals);
-  shared = number_in around.shared;
-  ports = number_in around.ports;
+  shared = number_below around.shared.bound around.shared.numbering.now;
+  ports = number_below around.ports.bound around.ports.numbering.now;
   classes = number_in classes;
 }
 

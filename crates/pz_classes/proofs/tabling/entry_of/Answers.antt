@@ -11,7 +11,7 @@ returns-clause-row c =
     let within = c.requires.within in
     let fits = members_fit (model_view c.args.model.now) c.requires.few c.requires.acyclic c.args.class (omega (arith, same, within)) c.args.members c.requires.inherited in
     row_is (model_view c.args.model.now) c.args.class c.parent_at-parent.result c.args.members c.in_ok-start.start c.in_ok-methods.methods
-    (c.parent_at-parent.ensures ∙ c.requires.extending c.args.class) c.requires.inherited c.in_ok-start.ensures c.in_ok-methods.ensures fits.fields
+    (c.parent_at-parent.ensures ∙ c.requires.extending c.args.class) c.requires.inherited c.in_ok-start.ensures c.in_ok-methods.ensures fits
 
 pub start_at-requires-clause-few : goal.start_at-requires-clause-few
 start_at-requires-clause-few c =
@@ -24,4 +24,4 @@ invariant_of-result c =
     let same = length-map c.args.model.now.decls decl_view in
     let within = c.requires.within in
     let fits = members_fit (model_view c.args.model.now) c.requires.few c.requires.acyclic c.args.class (omega (arith, same, within)) c.args.members c.requires.inherited in
-    record { few_fields = fits.fields }
+    record { few = fits }
