@@ -1,7 +1,7 @@
 -- What the code reads of lists, and of classes that are not there.
 use Rattle.std.proofs.Common.{◌≡◌, refl, sym, ap, subst, ◌∙◌, ℕ, zero, suc, ◌-◌, ◌<◌, ◌≤◌, List, [], ◌∷◌, map, length, drop, drop-cons, Option, Some, None, get_or, slice_get, Bor, arith}
 use Rattle.std.proofs.Math.Logic.{∥∥₁_elim}
-use Rattle.std.specs.Coded.{coded_ℕ, coded_list}
+use Rattle.std.specs.Coded.{coded_ℕ, coded_list, coded_option}
 use base.Stored.{Coded-set}
 use Rattle.std.specs.List.{HoldsAt}
 use Rattle.std.proofs.lemmas.List.{length-map}
@@ -33,6 +33,10 @@ decls_count ds model m is view = ap (λ (xs : List Decl). length xs) is ∙ (sym
 -- a list of names is a set's
 pub names_merely : {A : Type 0} (xs ys : List (List ℕ)) → ∥ A ∥₁ → (A → xs ≡ ys) → xs ≡ ys
 names_merely xs ys a is = ∥∥₁_elim a (Coded-set (coded_list (coded_list coded_ℕ)) xs ys) is
+
+-- and so is a number that may be missing
+pub number_merely : {A : Type 0} (x y : Option ℕ) → ∥ A ∥₁ → (A → x ≡ y) → x ≡ y
+number_merely x y a is = ∥∥₁_elim a (Coded-set (coded_option coded_ℕ) x y) is
 
 pub none_declared : (m : ModelTree) (c : ℕ) → length m.decls < c → declaration m c ≡ None
 none_declared m zero past = absurd (omega arith)

@@ -1,29 +1,24 @@
 -- Plans, one step further.
-use Rattle.std.proofs.Common.{◌≡◌, refl, sym, ap, ◌∙◌, subst, ℕ, zero, suc, ◌+◌, ◌<◌, ◌≤◌, ◌^◌, List, [], ◌∷◌, ◌++◌, append_assoc, append-nil, map, take, take-suc, drop, length, get_or, Option, Some, None, slice_get, ◌⊎◌, inl, inr, arith}
+use Rattle.std.proofs.Common.{◌≡◌, refl, sym, ap, ◌∙◌, ℕ, suc, ◌+◌, ◌<◌, ◌≤◌, ◌^◌, List, [], ◌∷◌, ◌++◌, append_assoc, append-nil, map, take, take-suc, drop, length, get_or, Option, Some, None, slice_get, arith}
 use Rattle.std.proofs.Math.Path.{fun_ext}
-use Rattle.std.proofs.lemmas.Bool.{cases_lt}
-use Rattle.std.specs.Option.{option_or, option_and_then, option_map_or}
+use Rattle.std.specs.Option.{option_or, option_and_then, option_map, option_map_or}
 use Rattle.std.specs.List.{flat_map}
-use Rattle.std.proofs.lemmas.List.{length_push, drop_all, map-append}
+use Rattle.std.proofs.lemmas.List.{drop_all, map-append}
+use Rattle.std.proofs.lemmas.Option.{slice_get-map}
 use Rattle.pz_syntax.specs.declared.clusters.Instance.{Instance}
 use Rattle.pz_syntax.specs.declared.clusters.Channel.{Channel as Written}
 use Rattle.pz_syntax.specs.declared.clusters.ChannelEnd.{ChannelEnd}
 use Rattle.pz_syntax.specs.declared.clusters.Decl.{Decl}
 use Rattle.pz_syntax.specs.Classes.{DeclTree, ModelTree}
 use Rattle.pz_syntax.specs.ClassView.{decl_view}
-use Rattle.pz_classes_code.specs.declared.numbering.Numbering.{Numbering}
-use Rattle.pz_classes_code.specs.NumberIn.{number_in}
-use Rattle.pz_classes.specs.Bodies.{place_in}
 use Rattle.pz_classes.specs.Instances.{instances}
-use Rattle.pz_classes.specs.Members.{own_ports, ports, spelled}
 use Rattle.pz_classes.specs.Numbers.{declaration}
 use Rattle.pz_classes.specs.SoundNumbers.{NumbersFit}
+use Rattle.pz_bind_levels.specs.declared.plan.LevelPart.{LevelPart}
 use Rattle.pz_bind_levels.specs.Layouts.{Layout}
-use Rattle.pz_bind_levels.proofs.Each.{pushed_at, there}
-use Rattle.pz_bind.specs.Nest.{instances_in}
-use Rattle.pz_bind.specs.devices.Layouts.{linked_by, link_of, links_from, port_number, class_layout, layouts_from}
-use Rattle.pz_bind.specs.devices.Numberings.{AreNumbers, ByClass}
-use Rattle.pz_bind.proofs.Gets.{none_declared, none_inherited, one_more}
+use Rattle.pz_bind.specs.Nest.{instances_in, class_of}
+use Rattle.pz_bind.specs.devices.Layouts.{part_of, port_number, port_of, linked_by, link_of, links_from, class_layout, layouts_from}
+use Rattle.pz_bind.proofs.Gets.{one_more}
 use Rattle.pz_bind.proofs.Linked.{linked_append, or_assoc}
 
 pub or_none : {A : Type 0} (o : Option A) → option_or o None ≡ o
@@ -72,6 +67,20 @@ module _ (m : ModelTree) where
     channels_done hs at now whole past before =
         sym (or_none now) ∙ (ap (λ (gs : List Written). option_or now (linked_by (links_from m xs at gs) i p)) (sym (drop_all at hs past)) ∙ before)
 
+  -- the port of an instance of which this is kept
+  pub port_step : (kept : ModelTree) (xs : List Instance) (ps : List LevelPart) (part : LevelPart) (i : ℕ) (name : List ℕ) (r : Option ℕ) → ps ≡ map (part_of m) xs → kept ≡ m → slice_get ps i ≡ Some part
+      → r ≡ port_number kept part.class name → r ≡ port_of m xs i name
+  port_step kept xs ps part i name r parts same here is =
+      let mapped : slice_get ps i ≡ option_map (part_of m) (slice_get xs i) = ap (λ (qs : List LevelPart). slice_get qs i) parts ∙ slice_get-map (part_of m) xs i in
+      is ∙ (ap (λ (t : ModelTree). port_number t part.class name) same ∙ (ap (option_and_then its_port) (sym here ∙ mapped) ∙ by_instance (slice_get xs i)))
+    where
+      its_port : LevelPart → Option ℕ
+      its_port q = port_number m q.class name
+
+      by_instance : (o : Option Instance) → option_and_then its_port (option_map (part_of m) o) ≡ option_and_then (λ x. port_number m (class_of m x) name) o
+      by_instance None = refl
+      by_instance (Some x) = refl
+
   -- 32 bits number the instances in a class
   pub instances_fit : NumbersFit m → (c : ℕ) → length (instances_in m c) < 2 ^ 32
   instances_fit fit c = by_declaration (declaration m c) refl
@@ -79,50 +88,6 @@ module _ (m : ModelTree) where
       by_declaration : (o : Option DeclTree) → declaration m c ≡ o → length (option_map_or instances o []) < 2 ^ 32
       by_declaration None is = omega arith
       by_declaration (Some d) is = fit.instances c d is
-
-  -- ---- the numbers of ports
-
-  no_port : (class : ℕ) (port : List ℕ) → length m.decls < class → port_number m class port ≡ None
-  no_port class port past = ap (λ ids. place_in (spelled ids) port) (none_inherited own_ports m class (none_declared m class past))
-
-  pub first_numbered : (n : Numbering) → ((q : List ℕ) → number_in n q ≡ None) → ByClass m 1 1 (n ∷ [])
-  first_numbered n none = record { next = refl; counted = refl; each = by_place }
-    where
-      by_place : (k : ℕ) (o : Numbering) → slice_get (n ∷ []) k ≡ Some o → (port : List ℕ) → number_in o port ≡ port_number m k port
-      by_place zero o at port = let same : n ≡ o = cc in subst (λ x. number_in x port ≡ None) same (none port)
-      by_place (suc k) o at port = cc
-
-  pub next_numbered : (class count later : ℕ) (ns new : List Numbering) (n : Numbering) → ByClass m class count ns → ((q : List ℕ) → number_in n q ≡ place_in (spelled (ports m class)) q) → new ≡ ns ++ n ∷ [] → later ≡ suc class → ByClass m later (suc count) new
-  next_numbered class count later ns new n before is pushed after = record {
-    next = after ∙ ap suc before.next;
-    counted = let longer : length (ns ++ n ∷ []) ≡ length ns + 1 = length_push ns n in let size : length new ≡ length (ns ++ n ∷ []) = ap (λ (xs : List Numbering). length xs) pushed in let counts = before.counted in omega (arith, longer, size, counts);
-    each = λ k o at port. by_part k o port (pushed_at ns n o k (ap (λ (xs : List Numbering). slice_get xs k) (sym pushed) ∙ at));
-  }
-    where
-      by_part : (k : ℕ) (o : Numbering) (port : List ℕ) → (slice_get ns k ≡ Some o) ⊎ ((k ≡ length ns) × (n ≡ o)) → number_in o port ≡ port_number m k port
-      by_part k o port (inl found) = before.each k o found port
-      by_part k o port (inr (last, same)) =
-          let number : class ≡ k = before.next ∙ (sym before.counted ∙ sym last) in
-          subst (λ x. number_in x port ≡ port_number m k port) same (is port ∙ ap (λ c. port_number m c port) number)
-
-  pub all_numbered : (class : ℕ) (ns : List Numbering) → ByClass m class (suc (length m.decls)) ns → AreNumbers m (record { by_class = ns })
-  all_numbered class ns all k port = by_place (slice_get ns k) refl
-    where
-      by_place : (o : Option Numbering) → slice_get ns k ≡ o → option_and_then (λ n. number_in n port) (slice_get ns k) ≡ port_number m k port
-      by_place (Some n) at = ap (option_and_then (λ (x : Numbering). number_in x port)) at ∙ all.each k n at port
-      by_place None at = ap (option_and_then (λ (x : Numbering). number_in x port)) at ∙ sym (no_port k port (past k at))
-        where
-          past : (j : ℕ) → slice_get ns j ≡ None → length m.decls < j
-          past j none = by_order (cases_lt j (suc (length m.decls)))
-            where
-              by_order : (j < suc (length m.decls)) ⊎ (suc (length m.decls) ≤ j) → length m.decls < j
-              by_order (inr over) = omega arith
-              by_order (inl under) =
-                  let found = there ns j (let counts = all.counted in omega (arith, counts)) in
-                  let wrong : None ≡ Some found.0 = sym none ∙ found.1 in
-                  cc
-
-  -- ---- the plans
 
   pub plans_step : (ds : List Decl) (d : Decl) (at next : ℕ) (old new whole : List Layout) → at < length ds → d ≡ get_or ds at d → next ≡ suc at → new ≡ old ++ class_layout m (suc at) ∷ []
       → old ++ layouts_from m (suc at) (map decl_view (drop at ds)) ≡ whole → new ++ layouts_from m (suc next) (map decl_view (drop next ds)) ≡ whole

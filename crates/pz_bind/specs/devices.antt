@@ -1,5 +1,5 @@
 pub mod Layouts
-pub mod Numberings
+pub mod Namings
 pub mod Bindings
 pub mod Sites
 pub mod Processes

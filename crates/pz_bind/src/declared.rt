@@ -86,16 +86,24 @@ pub(crate) fn class_of(checked: &Checked, instance: &Instance) -> u32
     }
 }
 
-/// The ports of a class.
-pub(crate) fn ports_of(checked: &Checked, class: u32) -> &[Name]
-    ensures { result.now ≡ spelled (members.ports (checked_model checked.now) class) }
+/// The number of the port of this name of a class, if it has one.
+fn numbered_port(checked: &Checked, class: u32, name: &[u8]) -> Option<u32>
+    ensures { result ≡ layouts.port_number (checked_model checked.now) class name.now }
 {
     let classes = checked.classes();
     if (class as usize) < classes.count() {
-        classes.ports(ClassId(class))
+        classes.port(ClassId(class), name)
     } else {
-        &[]
+        None
     }
+}
+
+/// The same, as an index.
+pub(crate) fn port_in(checked: &Checked, class: u32, name: &[u8]) -> Option<usize>
+    ensures { result ≡ layouts.port_number (checked_model checked.now) class name.now }
+{
+    let number = numbered_port(checked, class, name)?;
+    Some(number as usize)
 }
 
 /// The parameters and variables of a class.

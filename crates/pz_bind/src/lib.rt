@@ -8,7 +8,6 @@ mod naming;
 mod net;
 mod nodes;
 mod plans;
-mod port_numbers;
 mod sites;
 
 pub use net::Net;

@@ -1,19 +1,40 @@
 // In which channel of a level the ports of its instances are.
 
-ghost use Rattle.std.specs.Prelude.{◌≡◌, ℕ, List, None, IfOk, OnOk};
+ghost use Rattle.std.specs.Prelude.{◌≡◌, ◌<◌, ◌^◌, ℕ, List, None, length, IfOk, OnOk};
 ghost use Rattle.std.specs.Option.{option_or};
 ghost use Rattle.std.specs.List.{flat_map};
 ghost use Rattle.pz_syntax.specs.declared.clusters.Instance.{Instance as Stood};
 ghost use Rattle.pz_syntax.specs.Classes.{ModelTree};
+ghost use Rattle.pz_classes_code.specs.NumberIn.{number_in};
 ghost use Rattle.pz_bind_levels.specs.devices.Walking.{linked_in};
 ghost use Rattle.pz_bind.specs.devices.Layouts.{instance_number, port_of, linked_by, link_of, links_from};
-ghost use Rattle.pz_bind.specs.devices.Numberings.{IsNaming};
+ghost use Rattle.pz_bind.specs.devices.Namings.{IsNaming};
 
-use crate::port_numbers::PortNumbers;
+use crate::declared::port_in;
 use pz_bind_levels::{LevelPart, Links};
+use pz_classes::Checked;
 use pz_classes_code::Numbering;
-use pz_syntax::{Channel, ChannelEnd};
+use pz_syntax::{Channel, ChannelEnd, Instance};
 use std::alloc::{AllocError, Global};
+
+/// The number of each of these instances by its name, from 0; the first of a name counts. The only
+/// error is want of memory.
+pub(crate) fn number_instances(
+    alloc: Global,
+    instances: &[Instance],
+) -> Result<Numbering, AllocError>
+    requires { length instances.now < 2 ^ 32 }
+    ensures { IfOk result (λ numbers. (q : List ℕ) →
+        number_in numbers q ≡ instance_number instances.now q) }
+{
+    let mut numbers = Numbering::new(alloc);
+    let mut number = 0u32;
+    for instance in instances {
+        numbers.add(alloc, &instance.name.name, number)?;
+        number += 1;
+    }
+    Ok(numbers)
+}
 
 /// What the names in a level stand for.
 #[derive(Drop)]
@@ -22,7 +43,8 @@ pub(crate) struct Naming<'a> {
     pub(crate) parts: &'a [LevelPart],
     /// Their numbers by their names.
     pub(crate) numbers: Numbering,
-    pub(crate) ports: &'a PortNumbers,
+    /// The model says of each class which ports it has.
+    pub(crate) checked: &'a Checked,
 }
 
 impl Naming<'_> {
@@ -41,7 +63,7 @@ impl Naming<'_> {
             result ≡ port_of m xs part name.now }
     {
         let class = self.parts.get(part)?.class;
-        self.ports.get(class as usize, name)
+        port_in(self.checked, class, name)
     }
 
     /// Puts an end into a channel. The only error is want of memory.

@@ -2,17 +2,16 @@
 
 ghost use Rattle.std.specs.Prelude.{◌≡◌, ◌<◌, ◌^◌, ℕ, length, map, IfOk};
 ghost use Rattle.pz_syntax.specs.declared.clusters.Channel.{Channel as Written};
-ghost use Rattle.pz_syntax.specs.Classes.{ModelTree};
 ghost use Rattle.pz_classes.specs.CheckedView.{checked_model};
 ghost use Rattle.pz_classes.specs.SoundNumbers.{NumbersFit};
 ghost use Rattle.pz_bind_levels.specs.devices.Walking.{layout_of, layouts_of, linked_in};
 ghost use Rattle.pz_bind.specs.devices.Layouts as spec;
 ghost use Rattle.pz_bind.specs.devices.Layouts.{class_layout, layouts, linked_by, links_from};
-ghost use Rattle.pz_bind.specs.devices.Numberings.{AreNumbers};
 
-use crate::declared::{channels_in, class_of, instances_in, is_cluster_class, is_numbered};
-use crate::naming::Naming;
-use crate::port_numbers::{PortNumbers, number_instances};
+use crate::declared::{
+    channels_in, class_of, instances_in, is_cluster_class, is_numbered, port_in,
+};
+use crate::naming::{Naming, number_instances};
 use pz_bind_levels::{LevelPart, Links, Plan};
 use pz_classes::Checked;
 use pz_items::Items;
@@ -47,12 +46,12 @@ fn parts_of(
 }
 
 /// The number of the port of its own class that a channel with these ends has.
-fn outer_of(ports: &PortNumbers, class: usize, ends: &[ChannelEnd]) -> Option<usize>
-    ensures { (m : ModelTree) → AreNumbers m ports.now → result ≡ spec.outer_from m class ends.now }
+fn outer_of(checked: &Checked, class: u32, ends: &[ChannelEnd]) -> Option<usize>
+    ensures { result ≡ spec.outer_from (checked_model checked.now) class ends.now }
 {
     for end in ends {
         if let ChannelEnd::Outer(port) = end {
-            return ports.get(class, port.name.as_str().as_bytes());
+            return port_in(checked, class, port.name.as_str().as_bytes());
         }
     }
     None
@@ -61,16 +60,16 @@ fn outer_of(ports: &PortNumbers, class: usize, ends: &[ChannelEnd]) -> Option<us
 /// The same for each of these channels. The only error is want of memory.
 fn outers_of(
     alloc: Global,
-    ports: &PortNumbers,
-    class: usize,
+    checked: &Checked,
+    class: u32,
     channels: &[Channel],
 ) -> Result<Items<Option<usize>>, AllocError>
-    ensures { IfOk result (λ outers. (m : ModelTree) → AreNumbers m ports.now →
-        outers ≡ map (λ (h : Written). spec.outer_from m class h.ends) channels.now) }
+    ensures { IfOk result (λ outers. outers ≡ map (λ (h : Written).
+        spec.outer_from (checked_model checked.now) class h.ends) channels.now) }
 {
     let mut outers = Items::new(alloc);
     for channel in channels {
-        outers.push(outer_of(ports, class, channel.ends.as_slice()))?;
+        outers.push(outer_of(checked, class, channel.ends.as_slice()))?;
     }
     Ok(outers)
 }
@@ -79,41 +78,35 @@ fn outers_of(
 /// memory.
 fn links_of(
     alloc: Global,
-    ports: &PortNumbers,
+    checked: &Checked,
     instances: &[Instance],
     parts: &[LevelPart],
     channels: &[Channel],
 ) -> Result<Links, AllocError>
     requires { length instances.now < 2 ^ 32 }
-    ensures { IfOk result (λ links. (m : ModelTree) → AreNumbers m ports.now →
-        parts.now ≡ map (spec.part_of m) instances.now → (i p : ℕ) →
-        linked_in links i p ≡ linked_by (links_from m instances.now 0 channels.now) i p) }
+    ensures { IfOk result (λ links. parts.now ≡ map (spec.part_of (checked_model checked.now))
+        instances.now → (i p : ℕ) → linked_in links i p ≡
+        linked_by (links_from (checked_model checked.now) instances.now 0 channels.now) i p) }
 {
     let naming = Naming {
         parts,
         numbers: number_instances(alloc, instances)?,
-        ports,
+        checked,
     };
     naming.links(alloc, channels)
 }
 
 /// What stands in a level of this class. The only error is want of memory.
-fn plan_of(
-    alloc: Global,
-    checked: &Checked,
-    ports: &PortNumbers,
-    class: usize,
-) -> Result<Plan, AllocError>
-    requires ports { AreNumbers (checked_model checked.now) ports.now }
+fn plan_of(alloc: Global, checked: &Checked, class: u32) -> Result<Plan, AllocError>
     requires numbers { NumbersFit (checked_model checked.now) }
     ensures { IfOk result (λ plan. layout_of plan ≡ class_layout
         (checked_model checked.now) class) }
 {
-    let instances = instances_in(checked, class);
-    let channels = channels_in(checked, class);
+    let instances = instances_in(checked, class as usize);
+    let channels = channels_in(checked, class as usize);
     let parts = parts_of(alloc, checked, instances)?;
-    let links = links_of(alloc, ports, instances, parts.as_slice(), channels)?;
-    let outer = outers_of(alloc, ports, class, channels)?;
+    let links = links_of(alloc, checked, instances, parts.as_slice(), channels)?;
+    let outer = outers_of(alloc, checked, class, channels)?;
     Ok(Plan {
         parts,
         outer,
@@ -126,12 +119,13 @@ pub(crate) fn plans_of(alloc: Global, checked: &Checked) -> Result<Items<Plan>, 
     ensures { IfOk result (λ plans. layouts_of plans ≡ layouts (checked_model checked.now)) }
 {
     is_numbered(checked);
-    let ports = PortNumbers::new(alloc, checked)?;
     let mut plans = Items::new(alloc);
-    plans.push(plan_of(alloc, checked, &ports, 0)?)?;
+    plans.push(plan_of(alloc, checked, 0)?)?;
+    let mut class = 1u32;
     let decls = checked.model().decls.as_slice();
-    for (index, _decl) in decls.iter().enumerate() {
-        plans.push(plan_of(alloc, checked, &ports, index + 1)?)?;
+    for _decl in decls {
+        plans.push(plan_of(alloc, checked, class)?)?;
+        class += 1;
     }
     Ok(plans)
 }

@@ -1,9 +1,8 @@
 use Rattle.std.proofs.Common.{◌≡◌, map, take}
 use Rattle.pz_syntax.specs.declared.clusters.Channel.{Channel}
-use Rattle.pz_syntax.specs.Classes.{ModelTree}
+use Rattle.pz_classes.specs.CheckedView.{checked_model}
 use Rattle.pz_bind.specs.devices.Layouts.{outer_from}
-use Rattle.pz_bind.specs.devices.Numberings.{AreNumbers}
 use Rattle.pz_bind.proofs.plans.outers_of.Given as goal
 
 abbrev pub invariant-loop-channel : goal.invariant-loop-channel
-invariant-loop-channel l = (m : ModelTree) → AreNumbers m l.ports → l.outers ≡ map (λ (h : Channel). outer_from m l.class h.ends) (take l.channel-index l.channels)
+invariant-loop-channel l = l.outers ≡ map (λ (h : Channel). outer_from (checked_model l.checked) l.class h.ends) (take l.channel-index l.channels)

@@ -5,7 +5,7 @@ use Rattle.pz_syntax.specs.declared.clusters.Instance.{Instance}
 use Rattle.pz_syntax.specs.Classes.{ModelTree}
 use Rattle.pz_bind_levels.specs.devices.Walking.{linked_in}
 use Rattle.pz_bind.specs.devices.Layouts.{linked_by, link_of}
-use Rattle.pz_bind.specs.devices.Numberings.{IsNaming}
+use Rattle.pz_bind.specs.devices.Namings.{IsNaming}
 use Rattle.pz_bind.proofs.naming.Naming.add_ends.Given as goal
 
 abbrev pub invariant-loop-end : goal.invariant-loop-end

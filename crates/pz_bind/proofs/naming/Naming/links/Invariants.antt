@@ -4,7 +4,7 @@ use Rattle.pz_syntax.specs.declared.clusters.Instance.{Instance}
 use Rattle.pz_syntax.specs.Classes.{ModelTree}
 use Rattle.pz_bind_levels.specs.devices.Walking.{linked_in}
 use Rattle.pz_bind.specs.devices.Layouts.{linked_by, links_from}
-use Rattle.pz_bind.specs.devices.Numberings.{IsNaming}
+use Rattle.pz_bind.specs.devices.Namings.{IsNaming}
 use Rattle.pz_bind.proofs.naming.Naming.links.Given as goal
 
 abbrev pub invariant-loop-number : goal.invariant-loop-number

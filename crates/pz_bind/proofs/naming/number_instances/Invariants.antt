@@ -3,7 +3,7 @@ use Rattle.std.specs.Option.{option_or}
 use Rattle.pz_classes_code.specs.NumberIn.{number_in}
 use Rattle.pz_classes.specs.Bodies.{place_from}
 use Rattle.pz_bind.specs.devices.Layouts.{instance_number}
-use Rattle.pz_bind.proofs.port_numbers.number_instances.Given as goal
+use Rattle.pz_bind.proofs.naming.number_instances.Given as goal
 
 abbrev pub invariant-loop-instance : goal.invariant-loop-instance
 invariant-loop-instance l = record {
