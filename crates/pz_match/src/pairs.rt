@@ -15,7 +15,6 @@ use std::marker::Model;
 
 /// The sends and receives that processes offer, and the pairs of them that fit, in the order of their
 /// wires, sends and receives. Contracts see a `Table`.
-#[derive(Drop)]
 pub struct Pairs {
     offers: Vec<Offers>,
     groups: Groups,
@@ -28,6 +27,29 @@ pub struct Pairs {
     /// Rows of sends that are gone: room for those that come.
     spare: Spare,
     lost: bool,
+}
+
+// Written out, so that it is proved once, here, and not in each crate that drops one.
+impl Drop for Pairs {
+    fn drop(self) {
+        let Pairs {
+            offers,
+            groups,
+            users,
+            shares,
+            places,
+            plan,
+            spare,
+            lost: _,
+        } = self;
+        std::mem::drop(offers);
+        std::mem::drop(groups);
+        std::mem::drop(users);
+        std::mem::drop(shares);
+        std::mem::drop(places);
+        std::mem::drop(plan);
+        std::mem::drop(spare);
+    }
 }
 
 impl Model for Pairs {

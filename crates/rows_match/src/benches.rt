@@ -146,6 +146,35 @@ fn seek(table: &Pairs, times: u32) -> Result<u32, AllocError>
     Ok(found)
 }
 
+/// The updates that a bench times, so many times.
+fn change<L: Ledger>(
+    alloc: Global,
+    table: &mut Pairs,
+    asker: &mut Asker<L>,
+    bench: &str,
+    size: u32,
+    times: u32,
+) -> Result<(), AllocError>
+    requires size { length table.old.senders ≡ size + 1 }
+    requires there { table.old.lost ≡ false }
+    ensures there { OnOk result (table.new.lost ≡ false) }
+{
+    match bench {
+        "askers" => come_and_go(alloc, table, asker, size, Kind::Asking, times),
+        "again" => offer_again(alloc, table, asker, 0, Kind::Send, times),
+        "nearly" => change_one(alloc, table, asker, 0, Kind::Send, times),
+        _ => come_and_go(alloc, table, asker, 0, Kind::Send, times),
+    }
+}
+
+fn last_kind(bench: &str) -> Kind {
+    match bench {
+        "conditions" | "askers" => Kind::Asking,
+        _ => Kind::Receive,
+    }
+}
+
+/// Fills the table for a bench and does what it times; how often, or how many pairs were found.
 fn run<L: Ledger>(
     alloc: Global,
     table: &mut Pairs,
@@ -162,19 +191,12 @@ fn run<L: Ledger>(
         fill_ring(alloc, table, asker, size)?;
         return seek(table, times);
     }
-    let last = match bench {
-        "conditions" | "askers" => Kind::Asking,
-        _ => Kind::Receive,
-    };
-    fill(alloc, table, asker, size, last)?;
+    fill(alloc, table, asker, size, last_kind(bench))?;
     come_and_go(alloc, table, asker, 0, Kind::Send, 2)?;
-    match bench {
-        "pairs" => return seek(table, times),
-        "askers" => come_and_go(alloc, table, asker, size, Kind::Asking, times)?,
-        "again" => offer_again(alloc, table, asker, 0, Kind::Send, times)?,
-        "nearly" => change_one(alloc, table, asker, 0, Kind::Send, times)?,
-        _ => come_and_go(alloc, table, asker, 0, Kind::Send, times)?,
+    if bench == "pairs" {
+        return seek(table, times);
     }
+    change(alloc, table, asker, bench, size, times)?;
     Ok(times)
 }
 

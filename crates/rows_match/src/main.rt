@@ -133,6 +133,47 @@ fn rule_of(line: &str) -> Option<Rule> {
     }
 }
 
+/// What the random updates of a line draw, if it begins with the word for some.
+fn draw_of(word: Option<&str>) -> Option<Draw> {
+    match word? {
+        "random" => Some(Draw::Other),
+        "near" => Some(Draw::Near),
+        "calm" => Some(Draw::Calm),
+        _ => None,
+    }
+}
+
+/// Does what a line says of a table, which begins with this word, for no random updates.
+fn show_words<L: Ledger>(
+    rt: &HostRuntime,
+    table: &mut Pairs,
+    asker: &mut Asker<L>,
+    processes: u32,
+    word: Option<&str>,
+    words: Split<'_, char>,
+) -> io::Result<()>
+    requires size { length table.old.senders ≡ processes }
+    requires there { table.old.lost ≡ false }
+    ensures size { OnOk result (length table.new.senders ≡ processes) }
+    ensures there { OnOk result (table.new.lost ≡ false) }
+{
+    match word {
+        Some("update") => show_update(rt, table, asker, processes, words),
+        Some("all") => show_all(rt, table, asker, processes, words),
+        Some("kth") => show_kth(rt, table, words),
+        Some("pairs") => showing::show_pairs(rt, table),
+        _ => println!(rt; "?"),
+    }
+}
+
+/// The pair with the number that is the next word.
+fn show_kth(rt: &HostRuntime, table: &Pairs, words: Split<'_, char>) -> io::Result<()>
+    requires { table.now.lost ≡ false }
+{
+    let mut words = words;
+    showing::show_kth(rt, table, u64::from(number(words.next())))
+}
+
 /// Does what a line says of a table.
 fn show_line<L: Ledger>(
     rt: &HostRuntime,
@@ -147,15 +188,10 @@ fn show_line<L: Ledger>(
     ensures there { OnOk result (table.new.lost ≡ false) }
 {
     let mut words = line.split(' ');
-    match words.next() {
-        Some("update") => show_update(rt, table, asker, processes, words),
-        Some("all") => show_all(rt, table, asker, processes, words),
-        Some("random") => show_random(rt, table, asker, processes, Draw::Other, words),
-        Some("near") => show_random(rt, table, asker, processes, Draw::Near, words),
-        Some("calm") => show_random(rt, table, asker, processes, Draw::Calm, words),
-        Some("kth") => showing::show_kth(rt, table, u64::from(number(words.next()))),
-        Some("pairs") => showing::show_pairs(rt, table),
-        _ => println!(rt; "?"),
+    let word = words.next();
+    match draw_of(word) {
+        Some(draw) => show_random(rt, table, asker, processes, draw, words),
+        None => show_words(rt, table, asker, processes, word, words),
     }
 }
 
@@ -219,12 +255,12 @@ fn show<L: Ledger>(rt: &HostRuntime, ledger: Blank) -> io::Result<()>
 }
 
 /// A bench, with such a judge: which one, how many processes, and how often.
-fn time<L: Ledger>(rt: &HostRuntime, ledger: Blank, words: Vec<String>) -> io::Result<()>
+fn time<L: Ledger>(rt: &HostRuntime, ledger: Blank, words: &[String]) -> io::Result<()>
     requires name { ledger.name ≡ L.name }
     requires parts { ledger.parts ≡ L.parts }
     requires some { 0 < L.parts }
 {
-    let [_, bench, size, times] = words.as_slice() else {
+    let [_, bench, size, times] = words else {
         return Ok(());
     };
     let mut asker = Asker::<L>::new(ledger);
@@ -237,7 +273,7 @@ fn time<L: Ledger>(rt: &HostRuntime, ledger: Blank, words: Vec<String>) -> io::R
 fn main(rt: HostRuntime) -> io::Result<()> {
     let words = env::args(&rt)?.collect::<Vec<String>>(rt.alloc())?;
     if words.len() == 4 {
-        time::<Brand>(&rt, Blank::new(1), words)
+        time::<Brand>(&rt, Blank::new(1), words.as_slice())
     } else {
         show::<Brand>(&rt, Blank::new(1))
     }

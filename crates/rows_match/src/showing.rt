@@ -12,18 +12,21 @@ fn show_end(rt: &HostRuntime, end: &End) -> io::Result<()> {
     print!(rt; "{process}{place:?}")
 }
 
+/// The ends of a pair, which is there.
+fn show_ends(rt: &HostRuntime, sender: &End, receiver: &End) -> io::Result<bool> {
+    show_end(rt, sender)?;
+    print!(rt; " -> ")?;
+    show_end(rt, receiver)?;
+    println!(rt;)?;
+    Ok(true)
+}
+
 /// The pair with this number; whether there is one.
 fn show_pair(rt: &HostRuntime, table: &Pairs, number: u64) -> io::Result<bool>
     requires { table.now.lost ≡ false }
 {
     match table.kth(number)? {
-        Some((sender, receiver)) => {
-            show_end(rt, &sender.end)?;
-            print!(rt; " -> ")?;
-            show_end(rt, &receiver)?;
-            println!(rt;)?;
-            Ok(true)
-        }
+        Some((sender, receiver)) => show_ends(rt, &sender.end, &receiver),
         None => Ok(false),
     }
 }
