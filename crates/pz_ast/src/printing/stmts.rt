@@ -8,7 +8,7 @@ ghost use Rattle.pz_syntax.specs.StatementText.{block_text, after_text, conditio
 ghost use Rattle.pz_syntax.specs.StatementView.{view, sequence_view, sequence_of, branches_of};
 
 use super::exprs::{put_arguments, put_bracketed, put_expr, put_exprs, put_test};
-use super::marks::{Print, put_head, put_keyword, put_symbol, put_word};
+use super::marks::{put_head, put_keyword, put_separated, put_symbol, put_word};
 use pz_items::{Boxed, Items};
 use pz_syntax::{Expr, Id, Keyword, Mark, Stmt, StmtForm, Symbol};
 use std::alloc::AllocError;
@@ -29,8 +29,24 @@ fn put_stmt(out: &mut Items<Mark>, statement: &Stmt) -> Result<(), AllocError>
             put_guard(out, test.get())?;
             put_stmt(out, body.get())
         }
-        StmtForm::Par(branches) => put_par(out, branches.as_slice()),
-        StmtForm::Sel(branches) => put_sel(out, branches.as_slice()),
+        StmtForm::Par(branches) => {
+            put_closed(
+                out,
+                Keyword::Par,
+                Keyword::And,
+                Keyword::Rap,
+                branches.as_slice(),
+            )
+        }
+        StmtForm::Sel(branches) => {
+            put_closed(
+                out,
+                Keyword::Sel,
+                Keyword::Or,
+                Keyword::Les,
+                branches.as_slice(),
+            )
+        }
         StmtForm::If(test, body, other) => {
             put_test(out, Keyword::If, test.get(), Keyword::Then)?;
             put_stmts(out, body.get().as_slice())?;
@@ -113,26 +129,21 @@ fn put_otherwise(out: &mut Items<Mark>, body: &[Stmt]) -> Result<(), AllocError>
     put_stmts(out, body)
 }
 
+/// Branches between the keywords of `par` or of `sel`.
 #[cycle(put)]
-fn put_par(out: &mut Items<Mark>, branches: &[Items<Stmt>]) -> Result<(), AllocError>
-    ensures { OnOk result (out.new ≡ out.old ++ keyword Keyword.Par ∷
-        (branches_text Keyword.And (branches_of (map (map view) branches.now)) ++ keyword
-        Keyword.Rap ∷ [])) }
+fn put_closed(
+    out: &mut Items<Mark>,
+    begin: Keyword,
+    separator: Keyword,
+    end: Keyword,
+    branches: &[Items<Stmt>],
+) -> Result<(), AllocError>
+    ensures { OnOk result (out.new ≡ out.old ++ keyword begin ∷ (branches_text separator
+        (branches_of (map (map view) branches.now)) ++ keyword end ∷ [])) }
 {
-    put_keyword(out, Keyword::Par)?;
-    put_branches(out, Keyword::And, branches)?;
-    put_keyword(out, Keyword::Rap)
-}
-
-#[cycle(put)]
-fn put_sel(out: &mut Items<Mark>, branches: &[Items<Stmt>]) -> Result<(), AllocError>
-    ensures { OnOk result (out.new ≡ out.old ++ keyword Keyword.Sel ∷
-        (branches_text Keyword.Or (branches_of (map (map view) branches.now)) ++ keyword Keyword.Les
-        ∷ [])) }
-{
-    put_keyword(out, Keyword::Sel)?;
-    put_branches(out, Keyword::Or, branches)?;
-    put_keyword(out, Keyword::Les)
+    put_keyword(out, begin)?;
+    put_branches(out, separator, branches)?;
+    put_keyword(out, end)
 }
 
 /// What `par` and `sel` have between their keywords.
@@ -248,7 +259,7 @@ fn put_reception(
         (names_text into.now ++ condition_text (option_map expression_view.view condition.now))) }
 {
     put_symbol(out, Symbol::LeftParen)?;
-    into.print(out)?;
+    put_separated(out, Symbol::Comma, into.as_slice())?;
     if let Some(condition) = condition {
         put_symbol(out, Symbol::Bar)?;
         put_expr(out, condition.get())?;
@@ -269,6 +280,6 @@ fn put_call(
     put_head(out, method)?;
     put_bracketed(out, Symbol::Comma, args)?;
     put_symbol(out, Symbol::LeftParen)?;
-    results.print(out)?;
+    put_separated(out, Symbol::Comma, results.as_slice())?;
     put_symbol(out, Symbol::RightParen)
 }

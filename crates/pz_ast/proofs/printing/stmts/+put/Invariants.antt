@@ -29,8 +29,5 @@ decreases-put_branches l = 4 * goal.size-put_branches l + 2
 abbrev pub decreases-put_group : goal.decreases-put_group
 decreases-put_group l = 4 * goal.size-put_group l + 2
 
-abbrev pub decreases-put_par : goal.decreases-put_par
-decreases-put_par l = 4 * goal.size-put_par l + 3
-
-abbrev pub decreases-put_sel : goal.decreases-put_sel
-decreases-put_sel l = 4 * goal.size-put_sel l + 3
+abbrev pub decreases-put_closed : goal.decreases-put_closed
+decreases-put_closed l = 4 * goal.size-put_closed l + 3
