@@ -49,16 +49,17 @@ fn put_stmt(out: &mut Items<Mark>, statement: &Stmt) -> Result<(), AllocError>
         }
         StmtForm::If(test, body, other) => {
             put_test(out, Keyword::If, test.get(), Keyword::Then)?;
-            put_stmts(out, body.get().as_slice())?;
-            if let Some(other) = other {
-                put_otherwise(out, other.get().as_slice())?;
+            match other {
+                None => put_body(out, body.get().as_slice(), Keyword::Fi),
+                Some(other) => {
+                    put_body(out, body.get().as_slice(), Keyword::Else)?;
+                    put_body(out, other.get().as_slice(), Keyword::Fi)
+                }
             }
-            put_keyword(out, Keyword::Fi)
         }
         StmtForm::While(test, body) => {
             put_test(out, Keyword::While, test.get(), Keyword::Do)?;
-            put_stmts(out, body.as_slice())?;
-            put_keyword(out, Keyword::Od)
+            put_body(out, body.as_slice(), Keyword::Od)
         }
         StmtForm::Abort(body, other) => {
             put_first(out, Keyword::Abort, body.as_slice())?;
@@ -120,13 +121,14 @@ fn put_group(out: &mut Items<Mark>, body: &[Stmt]) -> Result<(), AllocError>
     put_symbol(out, Symbol::RightParen)
 }
 
+/// Statements and the keyword behind them.
 #[cycle(put)]
-fn put_otherwise(out: &mut Items<Mark>, body: &[Stmt]) -> Result<(), AllocError>
-    ensures { OnOk result (out.new ≡ out.old ++ keyword Keyword.Else ∷ texts
-        (sequence_view body.now)) }
+fn put_body(out: &mut Items<Mark>, body: &[Stmt], after: Keyword) -> Result<(), AllocError>
+    ensures { OnOk result (out.new ≡ out.old ++ texts (sequence_view body.now) ++ keyword after ∷
+        []) }
 {
-    put_keyword(out, Keyword::Else)?;
-    put_stmts(out, body)
+    put_stmts(out, body)?;
+    put_keyword(out, after)
 }
 
 /// Branches between the keywords of `par` or of `sel`.
@@ -172,8 +174,7 @@ fn put_first(out: &mut Items<Mark>, begin: Keyword, body: &[Stmt]) -> Result<(),
         (texts (sequence_view body.now) ++ keyword Keyword.With ∷ [])) }
 {
     put_keyword(out, begin)?;
-    put_stmts(out, body)?;
-    put_keyword(out, Keyword::With)
+    put_body(out, body, Keyword::With)
 }
 
 fn put_block(out: &mut Items<Mark>, es: &[Expr]) -> Result<(), AllocError>

@@ -17,11 +17,11 @@ decreases-put_stmt l = 4 * goal.size-put_stmt l
 abbrev pub decreases-put_stmts : goal.decreases-put_stmts
 decreases-put_stmts l = 4 * goal.size-put_stmts l + 1
 
-abbrev pub decreases-put_otherwise : goal.decreases-put_otherwise
-decreases-put_otherwise l = 4 * goal.size-put_otherwise l + 2
+abbrev pub decreases-put_body : goal.decreases-put_body
+decreases-put_body l = 4 * goal.size-put_body l + 2
 
 abbrev pub decreases-put_first : goal.decreases-put_first
-decreases-put_first l = 4 * goal.size-put_first l + 2
+decreases-put_first l = 4 * goal.size-put_first l + 3
 
 abbrev pub decreases-put_branches : goal.decreases-put_branches
 decreases-put_branches l = 4 * goal.size-put_branches l + 2
