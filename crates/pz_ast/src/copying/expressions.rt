@@ -78,7 +78,7 @@ fn copy_boxed(alloc: Global, expr: &Expr) -> Result<Boxed<Expr>, AllocError>
 }
 
 #[cycle(copy_expr)]
-pub(crate) fn copy_list(alloc: Global, list: &[Expr]) -> Result<Items<Expr>, AllocError>
+fn copy_list(alloc: Global, list: &[Expr]) -> Result<Items<Expr>, AllocError>
     ensures { IfOk result (λ copy. copy ≡ list.now) }
 {
     let mut copy = Items::new(alloc);

@@ -1,6 +1,6 @@
 ghost use Rattle.std.specs.Prelude.{◌≡◌, IfOk};
 
-use crate::copying::parts::{Copied, copy_items, copy_part};
+use crate::copying::parts::{Copied, copy_five, copy_two};
 use pz_items::both;
 use pz_syntax::{Arg, Channel, ChannelEnd, ClusterClass, Decl, Given, Instance, Model, SystemDecl};
 use std::alloc::{AllocError, Global};
@@ -11,7 +11,7 @@ pub fn copy_model(alloc: Global, model: &Model) -> Result<Model, AllocError>
     ensures { IfOk result (λ copy. copy ≡ model.now) }
 {
     Ok(Model {
-        decls: copy_items(alloc, model.decls.as_slice())?,
+        decls: model.decls.copied(alloc)?,
     })
 }
 
@@ -28,16 +28,14 @@ impl Copied for Decl {
 
 impl Copied for ClusterClass {
     fn copied(&self, alloc: Global) -> Result<ClusterClass, AllocError> {
-        let given = both(
-            copy_part(alloc, &self.parameters),
-            copy_part(alloc, &self.ports),
-        );
-        let parts = both(
-            copy_part(alloc, &self.instances),
-            copy_part(alloc, &self.channels),
-        );
-        let all = both(self.name.copy(), both(given, parts));
-        let (name, ((parameters, ports), (instances, channels))) = all?;
+        let (((name, parameters), (ports, instances)), channels) = copy_five(
+            alloc,
+            &self.name,
+            &self.parameters,
+            &self.ports,
+            &self.instances,
+            &self.channels,
+        )?;
         Ok(ClusterClass {
             name,
             parameters,
@@ -50,8 +48,7 @@ impl Copied for ClusterClass {
 
 impl Copied for SystemDecl {
     fn copied(&self, alloc: Global) -> Result<SystemDecl, AllocError> {
-        let instances = copy_part(alloc, &self.instances);
-        let (instances, channels) = both(instances, copy_part(alloc, &self.channels))?;
+        let (instances, channels) = copy_two(alloc, &self.instances, &self.channels)?;
         Ok(SystemDecl {
             pos: self.pos,
             instances,
@@ -62,15 +59,15 @@ impl Copied for SystemDecl {
 
 impl Copied for Instance {
     fn copied(&self, alloc: Global) -> Result<Instance, AllocError> {
-        let names = both(self.name.copy(), self.class.copy());
-        let ((name, class), given) = both(names, copy_part(alloc, &self.given))?;
+        let made = copy_two(alloc, &self.class, &self.given);
+        let (name, (class, given)) = both(self.name.copy(), made)?;
         Ok(Instance { name, class, given })
     }
 }
 
 impl Copied for Given {
     fn copied(&self, alloc: Global) -> Result<Given, AllocError> {
-        let (name, arg) = both(self.name.copy(), self.arg.copied(alloc))?;
+        let (name, arg) = copy_two(alloc, &self.name, &self.arg)?;
         Ok(Given { name, arg })
     }
 }
@@ -89,16 +86,16 @@ impl Copied for Channel {
     fn copied(&self, alloc: Global) -> Result<Channel, AllocError> {
         Ok(Channel {
             pos: self.pos,
-            ends: copy_items(alloc, self.ends.as_slice())?,
+            ends: self.ends.copied(alloc)?,
         })
     }
 }
 
 impl Copied for ChannelEnd {
-    fn copied(&self, _alloc: Global) -> Result<ChannelEnd, AllocError> {
+    fn copied(&self, alloc: Global) -> Result<ChannelEnd, AllocError> {
         match self {
             ChannelEnd::Inner(instance, port) => {
-                let (instance, port) = both(instance.copy(), port.copy())?;
+                let (instance, port) = copy_two(alloc, instance, port)?;
                 Ok(ChannelEnd::Inner(instance, port))
             }
             ChannelEnd::Outer(port) => Ok(ChannelEnd::Outer(port.copy()?)),

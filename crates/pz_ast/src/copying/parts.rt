@@ -1,6 +1,6 @@
 ghost use Rattle.std.specs.Prelude.{◌≡◌, IfOk};
 
-use pz_items::{Boxed, Items};
+use pz_items::{Boxed, Items, both};
 use pz_syntax::Id;
 use std::alloc::{AllocError, Global};
 
@@ -25,52 +25,72 @@ impl<T: Copied + Drop> Copied for Boxed<T> {
 
 impl<T: Copied + Drop> Copied for Items<T> {
     fn copied(&self, alloc: Global) -> Result<Items<T>, AllocError> {
-        copy_items(alloc, self.as_slice())
+        let mut copy = Items::new(alloc);
+        for item in self.as_slice() {
+            copy.push(item.copied(alloc)?)?;
+        }
+        Ok(copy)
     }
 }
 
 impl<T: Copied + Drop> Copied for Option<T> {
     fn copied(&self, alloc: Global) -> Result<Option<T>, AllocError> {
-        copy_option(alloc, self)
+        match self {
+            None => Ok(None),
+            Some(value) => Ok(Some(value.copied(alloc)?)),
+        }
     }
 }
 
-/// An equal list. The only error is want of memory.
-pub(crate) fn copy_items<T: Copied + Drop>(
+/// Two equal values: one call for two fields, so that the tree that the first is and the want of memory
+/// at the second meet in one proof, here, for all types. The only error is want of memory.
+pub(crate) fn copy_two<A: Copied + Drop, B: Copied + Drop>(
     alloc: Global,
-    items: &[T],
-) -> Result<Items<T>, AllocError>
-    ensures { IfOk result (λ copy. copy ≡ items.now) }
+    first: &A,
+    second: &B,
+) -> Result<(A, B), AllocError>
+    ensures { IfOk result (λ copies. (copies.0 ≡ first.now) × (copies.1 ≡ second.now)) }
 {
-    let mut copy = Items::new(alloc);
-    for item in items {
-        copy.push(item.copied(alloc)?)?;
-    }
-    Ok(copy)
+    both(first.copied(alloc), second.copied(alloc))
 }
 
-/// An equal value, or none where there is none. The only error is want of memory.
-pub(crate) fn copy_option<T: Copied + Drop>(
+/// Four equal values. The only error is want of memory.
+pub(crate) fn copy_four<A: Copied + Drop, B: Copied + Drop, C: Copied + Drop, D: Copied + Drop>(
     alloc: Global,
-    part: &Option<T>,
-) -> Result<Option<T>, AllocError>
-    ensures { IfOk result (λ copy. copy ≡ part.now) }
+    first: &A,
+    second: &B,
+    third: &C,
+    fourth: &D,
+) -> Result<((A, B), (C, D)), AllocError>
+    ensures { IfOk result (λ copies. (copies.0.0 ≡ first.now) × (copies.0.1 ≡ second.now) ×
+        (copies.1.0 ≡ third.now) × (copies.1.1 ≡ fourth.now)) }
 {
-    match part {
-        None => Ok(None),
-        Some(value) => Ok(Some(value.copied(alloc)?)),
-    }
+    both(
+        copy_two(alloc, first, second),
+        copy_two(alloc, third, fourth),
+    )
 }
 
-/// An equal list, or none where there is none. The only error is want of memory.
-pub(crate) fn copy_part<T: Copied + Drop>(
+/// Five equal values. The only error is want of memory.
+pub(crate) fn copy_five<
+    A: Copied + Drop,
+    B: Copied + Drop,
+    C: Copied + Drop,
+    D: Copied + Drop,
+    E: Copied + Drop,
+>(
     alloc: Global,
-    part: &Option<Items<T>>,
-) -> Result<Option<Items<T>>, AllocError>
-    ensures { IfOk result (λ copy. copy ≡ part.now) }
+    first: &A,
+    second: &B,
+    third: &C,
+    fourth: &D,
+    fifth: &E,
+) -> Result<(((A, B), (C, D)), E), AllocError>
+    ensures { IfOk result (λ copies. (copies.0.0.0 ≡ first.now) × (copies.0.0.1 ≡ second.now) ×
+        (copies.0.1.0 ≡ third.now) × (copies.0.1.1 ≡ fourth.now) × (copies.1 ≡ fifth.now)) }
 {
-    match part {
-        None => Ok(None),
-        Some(items) => Ok(Some(copy_items(alloc, items.as_slice())?)),
-    }
+    both(
+        copy_four(alloc, first, second, third, fourth),
+        fifth.copied(alloc),
+    )
 }

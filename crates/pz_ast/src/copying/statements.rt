@@ -1,7 +1,7 @@
 ghost use Rattle.std.specs.Prelude.{◌≡◌, IfOk};
 
-use crate::copying::expressions::{copy_expression, copy_list as copy_exprs};
-use crate::copying::parts::{Copied, copy_option};
+use crate::copying::expressions::copy_expression;
+use crate::copying::parts::{Copied, copy_five, copy_four, copy_two};
 use pz_items::{Boxed, Items, both};
 use pz_syntax::{Expr, Id, Stmt, StmtForm};
 use std::alloc::{AllocError, Global};
@@ -25,7 +25,7 @@ fn copy_form(alloc: Global, form: &StmtForm) -> Result<StmtForm, AllocError>
         StmtForm::Skip => Ok(StmtForm::Skip),
         StmtForm::Delay(time) => Ok(StmtForm::Delay(copy_expression(alloc, time)?)),
         StmtForm::Group(list) => Ok(StmtForm::Group(copy_statements(alloc, list.as_slice())?)),
-        StmtForm::Block(list) => Ok(StmtForm::Block(copy_exprs(alloc, list.as_slice())?)),
+        StmtForm::Block(list) => Ok(StmtForm::Block(list.copied(alloc)?)),
         StmtForm::Guard(test, guarded) => {
             let guarded = copy_boxed(alloc, guarded.get());
             let (test, guarded) = both(test.copied(alloc), guarded)?;
@@ -78,8 +78,11 @@ fn copy_form(alloc: Global, form: &StmtForm) -> Result<StmtForm, AllocError>
             method,
             args,
             results,
-        } => copy_call(alloc, method, args.as_slice(), results),
-        StmtForm::Assign(target, value) => copy_assignment(alloc, target, value),
+        } => copy_call(alloc, method, args, results),
+        StmtForm::Assign(target, value) => {
+            let (target, value) = copy_two(alloc, target, value)?;
+            Ok(StmtForm::Assign(target, value))
+        }
         StmtForm::Value(value) => Ok(StmtForm::Value(copy_expression(alloc, value)?)),
     }
 }
@@ -95,29 +98,18 @@ fn copy_boxed(alloc: Global, stmt: &Stmt) -> Result<Boxed<Stmt>, AllocError>
 fn copy_call(
     alloc: Global,
     method: &Boxed<Id>,
-    args: &[Expr],
+    args: &Items<Expr>,
     results: &Boxed<Items<Id>>,
 ) -> Result<StmtForm, AllocError>
     ensures { IfOk result (λ copy. copy ≡ StmtForm.Call method.now args.now results.now) }
 {
-    let lists = both(copy_exprs(alloc, args), results.copied(alloc));
-    let (method, (args, results)) = both(method.copied(alloc), lists)?;
+    let ends = copy_two(alloc, method, results);
+    let ((method, results), args) = both(ends, args.copied(alloc))?;
     Ok(StmtForm::Call {
         method,
         args,
         results,
     })
-}
-
-fn copy_assignment(
-    alloc: Global,
-    target: &Boxed<Id>,
-    value: &Boxed<Expr>,
-) -> Result<StmtForm, AllocError>
-    ensures { IfOk result (λ copy. copy ≡ StmtForm.Assign target.now value.now) }
-{
-    let (target, value) = both(target.copied(alloc), value.copied(alloc))?;
-    Ok(StmtForm::Assign(target, value))
 }
 
 fn copy_send(
@@ -129,9 +121,7 @@ fn copy_send(
 ) -> Result<StmtForm, AllocError>
     ensures { IfOk result (λ copy. copy ≡ StmtForm.Send port.now name.now args.now block.now) }
 {
-    let names = both(port.copied(alloc), name.copied(alloc));
-    let lists = both(copy_option(alloc, args), block.copied(alloc));
-    let ((port, name), (args, block)) = both(names, lists)?;
+    let ((port, name), (args, block)) = copy_four(alloc, port, name, args, block)?;
     Ok(StmtForm::Send {
         port,
         name,
@@ -151,10 +141,9 @@ fn copy_receive(
     ensures { IfOk result (λ copy. copy ≡ StmtForm.Receive port.now name.now into.now condition.now
         block.now) }
 {
-    let names = both(port.copied(alloc), name.copied(alloc));
-    let received = both(into.copied(alloc), condition.copied(alloc));
-    let all = both(both(names, received), block.copied(alloc));
-    let (((port, name), (into, condition)), block) = all?;
+    let (((port, name), (into, condition)), block) = copy_five(
+        alloc, port, name, into, condition, block,
+    )?;
     Ok(StmtForm::Receive {
         port,
         name,
@@ -185,4 +174,10 @@ fn copy_branches(alloc: Global, branches: &[Items<Stmt>]) -> Result<Items<Items<
         copy.push(copy_statements(alloc, branch.as_slice())?)?;
     }
     Ok(copy)
+}
+
+impl Copied for Stmt {
+    fn copied(&self, alloc: Global) -> Result<Stmt, AllocError> {
+        copy_statement(alloc, self)
+    }
 }

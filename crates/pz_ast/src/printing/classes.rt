@@ -1,13 +1,13 @@
 ghost use Rattle.std.specs.Prelude.{◌≡◌, List, [], ◌∷◌, ◌++◌, map, option_map, if◌then◌else◌, OnOk};
 ghost use Rattle.pz_syntax.specs.declared.tokens.Mark.{Mark};
 ghost use Rattle.pz_syntax.specs.Marks.{symbol, word, head, optional, each_text};
-ghost use Rattle.pz_syntax.specs.ClassText.{group_names, group_text, variables_text, formal_text, locals_text, data_method_text, data_class_text, message_text, messages_text, start_text, process_method_text, process_class_text};
+ghost use Rattle.pz_syntax.specs.ClassText.{group_names, group_text, formal_text, locals_text, data_method_text, data_class_text, message_text, start_text, process_method_text, process_class_text};
 ghost use Rattle.pz_syntax.specs.ClassView.{data_method_view, data_class_view, start_view, process_method_view, process_class_view};
 
 use super::exprs::{put_bracketed, put_exprs};
 use super::marks::{
-    Print, put_each, put_head, put_keyword, put_section, put_selector_head, put_separated,
-    put_symbol, put_word,
+    Print, put_each, put_head, put_keyword, put_section, put_section_of_list, put_selector_head,
+    put_separated, put_symbol, put_word,
 };
 use super::stmts::put_stmts;
 use pz_items::Items;
@@ -24,14 +24,6 @@ impl Print for VarGroup {
         put_group_names(out, self.names.as_slice())?;
         put_symbol(out, Symbol::Colon)?;
         put_word(out, &self.kind)
-    }
-}
-
-impl Print for Items<VarGroup> {
-    ghost text_of = { variables_text };
-
-    fn print(&self, out: &mut Items<Mark>) -> Result<(), AllocError> {
-        put_separated(out, Symbol::Comma, self.as_slice())
     }
 }
 
@@ -64,7 +56,7 @@ impl Print for DataClass {
         put_keyword(out, Keyword::Class)?;
         put_word(out, &self.name)?;
         put_section(out, Keyword::Extends, &self.parent)?;
-        put_section(out, Keyword::Variables, &self.variables)?;
+        put_section_of_list(out, Keyword::Variables, &self.variables)?;
         put_section(out, Keyword::Methods, &self.methods)
     }
 }
@@ -83,18 +75,10 @@ impl Print for Message {
         put_word(out, &self.name)?;
         if let Some(types) = &self.types {
             put_symbol(out, Symbol::LeftParen)?;
-            types.print(out)?;
+            put_separated(out, Symbol::Comma, types.as_slice())?;
             put_symbol(out, Symbol::RightParen)?;
         }
         Ok(())
-    }
-}
-
-impl Print for Items<Message> {
-    ghost text_of = { messages_text };
-
-    fn print(&self, out: &mut Items<Mark>) -> Result<(), AllocError> {
-        put_separated(out, Symbol::Comma, self.as_slice())
     }
 }
 
@@ -138,9 +122,9 @@ impl Print for ProcessClass {
         put_word(out, &self.name)?;
         put_written_formal(out, &self.parameters)?;
         put_section(out, Keyword::Extends, &self.parent)?;
-        put_section(out, Keyword::Ports, &self.ports)?;
-        put_section(out, Keyword::Messages, &self.messages)?;
-        put_section(out, Keyword::Variables, &self.variables)?;
+        put_section_of_list(out, Keyword::Ports, &self.ports)?;
+        put_section_of_list(out, Keyword::Messages, &self.messages)?;
+        put_section_of_list(out, Keyword::Variables, &self.variables)?;
         put_section(out, Keyword::Init, &self.start)?;
         put_section(out, Keyword::Methods, &self.methods)
     }
@@ -172,7 +156,7 @@ fn put_formal(out: &mut Items<Mark>, groups: &Items<VarGroup>) -> Result<(), All
     ensures { OnOk result (out.new ≡ out.old ++ formal_text groups.now) }
 {
     put_symbol(out, Symbol::LeftParen)?;
-    groups.print(out)?;
+    put_separated(out, Symbol::Comma, groups.as_slice())?;
     put_symbol(out, Symbol::RightParen)
 }
 
@@ -195,7 +179,7 @@ fn put_locals(out: &mut Items<Mark>, groups: &Option<Items<VarGroup>>) -> Result
 {
     if let Some(groups) = groups {
         put_symbol(out, Symbol::Bar)?;
-        groups.print(out)?;
+        put_separated(out, Symbol::Comma, groups.as_slice())?;
         put_symbol(out, Symbol::Bar)?;
     }
     Ok(())

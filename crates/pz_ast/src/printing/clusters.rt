@@ -1,13 +1,13 @@
 ghost use Rattle.std.specs.Prelude.{◌≡◌, List, [], ◌∷◌, ◌++◌, OnOk};
 ghost use Rattle.pz_syntax.specs.declared.tokens.Mark.{Mark};
-ghost use Rattle.pz_syntax.specs.Marks.{each_text};
 ghost use Rattle.pz_syntax.specs.ModelText.{arg_text, given_text, givens_text, instance_text, end_text, channel_text, cluster_class_text, system_text, decl_text};
 ghost use Rattle.pz_syntax.specs.ClassView.{decl_view};
 
 use super::classes::put_written_formal;
 use super::exprs::put_literal;
 use super::marks::{
-    Print, put, put_each, put_head, put_keyword, put_section, put_separated, put_symbol, put_word,
+    Print, put, put_head, put_keyword, put_section_of_each, put_section_of_list, put_separated,
+    put_symbol, put_word,
 };
 use pz_items::Items;
 use pz_syntax::{
@@ -37,9 +37,9 @@ impl Print for ClusterClass {
         put_keyword(out, Keyword::Class)?;
         put_word(out, &self.name)?;
         put_written_formal(out, &self.parameters)?;
-        put_section(out, Keyword::Ports, &self.ports)?;
-        put_section(out, Keyword::Instances, &self.instances)?;
-        put_section(out, Keyword::Channels, &self.channels)
+        put_section_of_list(out, Keyword::Ports, &self.ports)?;
+        put_section_of_each(out, Keyword::Instances, &self.instances)?;
+        put_section_of_each(out, Keyword::Channels, &self.channels)
     }
 }
 
@@ -48,16 +48,8 @@ impl Print for SystemDecl {
 
     fn print(&self, out: &mut Items<Mark>) -> Result<(), AllocError> {
         put_keyword(out, Keyword::System)?;
-        put_section(out, Keyword::Instances, &self.instances)?;
-        put_section(out, Keyword::Channels, &self.channels)
-    }
-}
-
-impl Print for Items<Instance> {
-    ghost text_of = { each_text instance_text };
-
-    fn print(&self, out: &mut Items<Mark>) -> Result<(), AllocError> {
-        put_each(out, self.as_slice())
+        put_section_of_each(out, Keyword::Instances, &self.instances)?;
+        put_section_of_each(out, Keyword::Channels, &self.channels)
     }
 }
 
@@ -107,14 +99,6 @@ impl Print for Arg {
             }
             Arg::Parameter(name) => put_word(out, name),
         }
-    }
-}
-
-impl Print for Items<Channel> {
-    ghost text_of = { each_text channel_text };
-
-    fn print(&self, out: &mut Items<Mark>) -> Result<(), AllocError> {
-        put_each(out, self.as_slice())
     }
 }
 

@@ -67,16 +67,17 @@ pub(crate) fn put_expr(out: &mut Items<Mark>, e: &Expr) -> Result<(), AllocError
         }
         ExprForm::If(test, body, other) => {
             put_test(out, Keyword::If, test.get(), Keyword::Then)?;
-            put_exprs(out, Symbol::Semicolon, body.get().as_slice())?;
-            if let Some(other) = other.get() {
-                put_otherwise(out, other.as_slice())?;
+            match other.get() {
+                None => put_body(out, body.get().as_slice(), Keyword::Fi),
+                Some(other) => {
+                    put_body(out, body.get().as_slice(), Keyword::Else)?;
+                    put_body(out, other.as_slice(), Keyword::Fi)
+                }
             }
-            put_keyword(out, Keyword::Fi)
         }
         ExprForm::While(test, body) => {
             put_test(out, Keyword::While, test.get(), Keyword::Do)?;
-            put_exprs(out, Symbol::Semicolon, body.get().as_slice())?;
-            put_keyword(out, Keyword::Od)
+            put_body(out, body.get().as_slice(), Keyword::Od)
         }
     }
 }
@@ -128,13 +129,14 @@ pub(crate) fn put_test(
     put_keyword(out, after)
 }
 
+/// Expressions and the keyword behind them.
 #[cycle(put)]
-fn put_otherwise(out: &mut Items<Mark>, es: &[Expr]) -> Result<(), AllocError>
-    ensures { OnOk result (out.new ≡ out.old ++ keyword Keyword.Else ∷ texts Symbol.Semicolon
-        (list_view es.now)) }
+fn put_body(out: &mut Items<Mark>, es: &[Expr], after: Keyword) -> Result<(), AllocError>
+    ensures { OnOk result (out.new ≡ out.old ++ texts Symbol.Semicolon (list_view es.now) ++ keyword
+        after ∷ []) }
 {
-    put_keyword(out, Keyword::Else)?;
-    put_exprs(out, Symbol::Semicolon, es)
+    put_exprs(out, Symbol::Semicolon, es)?;
+    put_keyword(out, after)
 }
 
 #[cycle(put)]

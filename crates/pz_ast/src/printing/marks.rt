@@ -1,7 +1,7 @@
 ghost use Rattle.std.specs.Prelude.{◌≡◌, List, [], ◌∷◌, ◌++◌, Option, OnOk, IfOk};
 ghost use Rattle.pz_syntax.specs.Marks;
 ghost use Rattle.pz_syntax.specs.declared.tokens.Mark.{Mark};
-ghost use Rattle.pz_syntax.specs.Marks.{mark, symbol, keyword, word, head, selector, selector_head, separated, each_text, section, word_text, names_text};
+ghost use Rattle.pz_syntax.specs.Marks.{mark, symbol, keyword, word, head, selector, selector_head, separated, each_text, section, word_text};
 
 use pz_items::Items;
 use pz_syntax::{Id, Keyword, Mark, Symbol, TokenKind};
@@ -21,14 +21,6 @@ impl Print for Id {
 
     fn print(&self, out: &mut Items<Mark>) -> Result<(), AllocError> {
         put_word(out, self)
-    }
-}
-
-impl Print for Items<Id> {
-    ghost text_of = { names_text };
-
-    fn print(&self, out: &mut Items<Mark>) -> Result<(), AllocError> {
-        put_separated(out, Symbol::Comma, self.as_slice())
     }
 }
 
@@ -128,6 +120,37 @@ pub(crate) fn put_section<T: Print>(
     if let Some(content) = content {
         put_keyword(out, begin)?;
         content.print(out)?;
+    }
+    Ok(())
+}
+
+/// A keyword and parts one after the other, if it is written.
+pub(crate) fn put_section_of_each<T: Print>(
+    out: &mut Items<Mark>,
+    begin: Keyword,
+    parts: &Option<Items<T>>,
+) -> Result<(), AllocError>
+    ensures { OnOk result (out.new ≡ out.old ++ section begin (each_text T.text_of) parts.now) }
+{
+    if let Some(parts) = parts {
+        put_keyword(out, begin)?;
+        put_each(out, parts.as_slice())?;
+    }
+    Ok(())
+}
+
+/// A keyword and parts with a comma between them, if it is written.
+pub(crate) fn put_section_of_list<T: Print>(
+    out: &mut Items<Mark>,
+    begin: Keyword,
+    parts: &Option<Items<T>>,
+) -> Result<(), AllocError>
+    ensures { OnOk result (out.new ≡ out.old ++ section begin (separated T.text_of Symbol.Comma)
+        parts.now) }
+{
+    if let Some(parts) = parts {
+        put_keyword(out, begin)?;
+        put_separated(out, Symbol::Comma, parts.as_slice())?;
     }
     Ok(())
 }

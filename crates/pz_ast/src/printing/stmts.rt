@@ -8,7 +8,7 @@ ghost use Rattle.pz_syntax.specs.StatementText.{block_text, after_text, conditio
 ghost use Rattle.pz_syntax.specs.StatementView.{view, sequence_view, sequence_of, branches_of};
 
 use super::exprs::{put_arguments, put_bracketed, put_expr, put_exprs, put_test};
-use super::marks::{Print, put_head, put_keyword, put_symbol, put_word};
+use super::marks::{put_head, put_keyword, put_separated, put_symbol, put_word};
 use pz_items::{Boxed, Items};
 use pz_syntax::{Expr, Id, Keyword, Mark, Stmt, StmtForm, Symbol};
 use std::alloc::AllocError;
@@ -29,20 +29,37 @@ fn put_stmt(out: &mut Items<Mark>, statement: &Stmt) -> Result<(), AllocError>
             put_guard(out, test.get())?;
             put_stmt(out, body.get())
         }
-        StmtForm::Par(branches) => put_par(out, branches.as_slice()),
-        StmtForm::Sel(branches) => put_sel(out, branches.as_slice()),
+        StmtForm::Par(branches) => {
+            put_closed(
+                out,
+                Keyword::Par,
+                Keyword::And,
+                Keyword::Rap,
+                branches.as_slice(),
+            )
+        }
+        StmtForm::Sel(branches) => {
+            put_closed(
+                out,
+                Keyword::Sel,
+                Keyword::Or,
+                Keyword::Les,
+                branches.as_slice(),
+            )
+        }
         StmtForm::If(test, body, other) => {
             put_test(out, Keyword::If, test.get(), Keyword::Then)?;
-            put_stmts(out, body.get().as_slice())?;
-            if let Some(other) = other {
-                put_otherwise(out, other.get().as_slice())?;
+            match other {
+                None => put_body(out, body.get().as_slice(), Keyword::Fi),
+                Some(other) => {
+                    put_body(out, body.get().as_slice(), Keyword::Else)?;
+                    put_body(out, other.get().as_slice(), Keyword::Fi)
+                }
             }
-            put_keyword(out, Keyword::Fi)
         }
         StmtForm::While(test, body) => {
             put_test(out, Keyword::While, test.get(), Keyword::Do)?;
-            put_stmts(out, body.as_slice())?;
-            put_keyword(out, Keyword::Od)
+            put_body(out, body.as_slice(), Keyword::Od)
         }
         StmtForm::Abort(body, other) => {
             put_first(out, Keyword::Abort, body.as_slice())?;
@@ -104,35 +121,31 @@ fn put_group(out: &mut Items<Mark>, body: &[Stmt]) -> Result<(), AllocError>
     put_symbol(out, Symbol::RightParen)
 }
 
+/// Statements and the keyword behind them.
 #[cycle(put)]
-fn put_otherwise(out: &mut Items<Mark>, body: &[Stmt]) -> Result<(), AllocError>
-    ensures { OnOk result (out.new ≡ out.old ++ keyword Keyword.Else ∷ texts
-        (sequence_view body.now)) }
+fn put_body(out: &mut Items<Mark>, body: &[Stmt], after: Keyword) -> Result<(), AllocError>
+    ensures { OnOk result (out.new ≡ out.old ++ texts (sequence_view body.now) ++ keyword after ∷
+        []) }
 {
-    put_keyword(out, Keyword::Else)?;
-    put_stmts(out, body)
+    put_stmts(out, body)?;
+    put_keyword(out, after)
 }
 
+/// Branches between the keywords of `par` or of `sel`.
 #[cycle(put)]
-fn put_par(out: &mut Items<Mark>, branches: &[Items<Stmt>]) -> Result<(), AllocError>
-    ensures { OnOk result (out.new ≡ out.old ++ keyword Keyword.Par ∷
-        (branches_text Keyword.And (branches_of (map (map view) branches.now)) ++ keyword
-        Keyword.Rap ∷ [])) }
+fn put_closed(
+    out: &mut Items<Mark>,
+    begin: Keyword,
+    separator: Keyword,
+    end: Keyword,
+    branches: &[Items<Stmt>],
+) -> Result<(), AllocError>
+    ensures { OnOk result (out.new ≡ out.old ++ keyword begin ∷ (branches_text separator
+        (branches_of (map (map view) branches.now)) ++ keyword end ∷ [])) }
 {
-    put_keyword(out, Keyword::Par)?;
-    put_branches(out, Keyword::And, branches)?;
-    put_keyword(out, Keyword::Rap)
-}
-
-#[cycle(put)]
-fn put_sel(out: &mut Items<Mark>, branches: &[Items<Stmt>]) -> Result<(), AllocError>
-    ensures { OnOk result (out.new ≡ out.old ++ keyword Keyword.Sel ∷
-        (branches_text Keyword.Or (branches_of (map (map view) branches.now)) ++ keyword Keyword.Les
-        ∷ [])) }
-{
-    put_keyword(out, Keyword::Sel)?;
-    put_branches(out, Keyword::Or, branches)?;
-    put_keyword(out, Keyword::Les)
+    put_keyword(out, begin)?;
+    put_branches(out, separator, branches)?;
+    put_keyword(out, end)
 }
 
 /// What `par` and `sel` have between their keywords.
@@ -161,8 +174,7 @@ fn put_first(out: &mut Items<Mark>, begin: Keyword, body: &[Stmt]) -> Result<(),
         (texts (sequence_view body.now) ++ keyword Keyword.With ∷ [])) }
 {
     put_keyword(out, begin)?;
-    put_stmts(out, body)?;
-    put_keyword(out, Keyword::With)
+    put_body(out, body, Keyword::With)
 }
 
 fn put_block(out: &mut Items<Mark>, es: &[Expr]) -> Result<(), AllocError>
@@ -248,7 +260,7 @@ fn put_reception(
         (names_text into.now ++ condition_text (option_map expression_view.view condition.now))) }
 {
     put_symbol(out, Symbol::LeftParen)?;
-    into.print(out)?;
+    put_separated(out, Symbol::Comma, into.as_slice())?;
     if let Some(condition) = condition {
         put_symbol(out, Symbol::Bar)?;
         put_expr(out, condition.get())?;
@@ -269,6 +281,6 @@ fn put_call(
     put_head(out, method)?;
     put_bracketed(out, Symbol::Comma, args)?;
     put_symbol(out, Symbol::LeftParen)?;
-    results.print(out)?;
+    put_separated(out, Symbol::Comma, results.as_slice())?;
     put_symbol(out, Symbol::RightParen)
 }

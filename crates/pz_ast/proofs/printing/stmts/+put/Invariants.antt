@@ -17,11 +17,11 @@ decreases-put_stmt l = 4 * goal.size-put_stmt l
 abbrev pub decreases-put_stmts : goal.decreases-put_stmts
 decreases-put_stmts l = 4 * goal.size-put_stmts l + 1
 
-abbrev pub decreases-put_otherwise : goal.decreases-put_otherwise
-decreases-put_otherwise l = 4 * goal.size-put_otherwise l + 2
+abbrev pub decreases-put_body : goal.decreases-put_body
+decreases-put_body l = 4 * goal.size-put_body l + 2
 
 abbrev pub decreases-put_first : goal.decreases-put_first
-decreases-put_first l = 4 * goal.size-put_first l + 2
+decreases-put_first l = 4 * goal.size-put_first l + 3
 
 abbrev pub decreases-put_branches : goal.decreases-put_branches
 decreases-put_branches l = 4 * goal.size-put_branches l + 2
@@ -29,8 +29,5 @@ decreases-put_branches l = 4 * goal.size-put_branches l + 2
 abbrev pub decreases-put_group : goal.decreases-put_group
 decreases-put_group l = 4 * goal.size-put_group l + 2
 
-abbrev pub decreases-put_par : goal.decreases-put_par
-decreases-put_par l = 4 * goal.size-put_par l + 3
-
-abbrev pub decreases-put_sel : goal.decreases-put_sel
-decreases-put_sel l = 4 * goal.size-put_sel l + 3
+abbrev pub decreases-put_closed : goal.decreases-put_closed
+decreases-put_closed l = 4 * goal.size-put_closed l + 3
