@@ -7,6 +7,9 @@ process='process class P(x : Integer) ports p messages p!m init s()() methods s(
 { pieces 19000 'data class A% variables x : A% methods m : Integer x m '; echo 'system'; } >"$room/many classes"
 { echo -n 'data class A0 '; pieces 10000 'data class A% extends A@ methods m% : Integer self m1 '; echo 'system'; } >"$room/a chain of data classes"
 { echo -n 'process class A0(x : Integer) ports p messages p!m(Integer), p?n init s()() methods s()() p!m(x); s()() '; pieces 10000 'process class A%() extends A@ methods s%()() p!m(x); p?n; s()() '; echo 'system'; } >"$room/a chain of process classes"
+{ echo -n 'data class A0 variables f0 : Integer '; pieces 10000 'data class A% extends A@ variables f% : Integer methods m% : Integer f% '; echo 'system'; } >"$room/a chain of fields"
+{ echo -n 'process class A0() init s()() methods s()() skip '; pieces 10000 'process class A%() extends A@ variables f% : Integer methods m%()() f% := 1 '; echo 'system'; } >"$room/a chain of variables"
+{ echo -n 'process class A0() init s()() methods s()() skip '; pieces 10000 'process class A%() extends A@ ports p% messages p%!m methods m%()() p%!m '; echo 'system'; } >"$room/a chain of ports"
 { pieces 27000 'm%(x : Integer) : Integer x m%(1) ' | sed 's/^/data class A methods /'; echo 'system'; } >"$room/many methods"
 { echo -n 'process class A() init s()() methods s()() m1()() '; pieces 40000 'm%()() m1()() '; echo 'system'; } >"$room/many methods that call"
 { echo -n 'data class A variables x'; pieces 80000 ', x%'; echo -n ' : Integer methods m : Integer x'; pieces 40000 ' + x%'; echo ' system'; } >"$room/many variables"
@@ -27,7 +30,7 @@ body='process class A() ports p messages p!m, p?m variables x : Integer init s()
 { echo -n "$body"; pieces 200000 'p?m;'; echo 'skip system'; } >"$room/receives"
 { echo -n "$body"; pieces 200000 'p!m;'; echo 'skip system'; } >"$room/sends"
 { echo -n "$body"; pieces 150000 's()();'; echo 'skip system'; } >"$room/calls"
-for shape in 'many classes' 'a chain of data classes' 'a chain of process classes' 'many methods' 'many methods that call' 'many variables' 'many instances' 'many ends of a channel' 'clusters in a chain' 'clusters in a ring' \
+for shape in 'many classes' 'a chain of data classes' 'a chain of process classes' 'a chain of fields' 'a chain of variables' 'a chain of ports' 'many methods' 'many methods that call' 'many variables' 'many instances' 'many ends of a channel' 'clusters in a chain' 'clusters in a ring' \
   'statements that assign' messages 'names alone' sums 'long sums' signs brackets guards receives sends calls; do
   measure_text "$shape" violations
 done
