@@ -5,7 +5,7 @@ use Rattle.std.specs.Str.{bytes_eq}
 use Rattle.std.proofs.lemmas.Slice.Eq.{bytes_eq-Decides}
 use Rattle.pz_syntax.specs.declared.names.Id.{Id}
 use Rattle.pz_classes.specs.Apart.{AreApart}
-use Rattle.pz_classes.specs.Bodies.{place_from, place_in}
+use Rattle.pz_classes_code.specs.Places.{place_from, place_in}
 use Rattle.pz_classes.specs.Members.{spelled}
 use Rattle.pz_classes.specs.RepeatRules.{same_name}
 

@@ -1,15 +1,16 @@
 // What the parameters of an instance are given.
 
 ghost use Rattle.std.specs.Prelude.{◌≡◌, List, ℕ, None, Some, [], map, IfOk, OnOk, if◌then◌else◌};
-ghost use Rattle.std.specs.Option.{option_or, unwrap_or};
+ghost use Rattle.std.specs.Option.{option_copied, option_or, unwrap_or};
 ghost use Rattle.std.specs.Str.{bytes_eq};
+ghost use Rattle.pz_classes_code.specs.devices.Above.{names_above};
 ghost use Rattle.pz_bind.specs.Values as spec;
 ghost use Rattle.pz_bind.specs.devices.Bindings.{meaning_value, bound_in, value_in};
 
 use indexmap::IndexMap;
-use pz_classes_code::constant;
+use pz_classes_code::{NameFront, constant};
 use pz_items::Items;
-use pz_syntax::{Arg, Given, Instance, Literal, Name};
+use pz_syntax::{Arg, Given, Instance, Literal};
 use pz_value::Value;
 use std::alloc::{AllocError, Global};
 
@@ -104,13 +105,23 @@ impl<'a> Bindings<'a> {
     }
 
     /// The values of these parameters and variables. The only error is want of memory.
-    pub(crate) fn values(&self, alloc: Global, names: &[Name]) -> Result<Items<Value>, AllocError>
-        ensures { IfOk result (λ values. values ≡ map (value_in self.now) names.now) }
+    pub(crate) fn values(
+        &self,
+        alloc: Global,
+        names: Option<&NameFront>,
+    ) -> Result<Items<Value>, AllocError>
+        ensures { IfOk result (λ values. values ≡ map (value_in self.now)
+            (names_above (option_copied names))) }
     {
         let mut values = Items::new(alloc);
-        for name in names {
-            let meaning = self.get(name.as_str().as_bytes());
-            values.push(meaning.value(alloc)?)?;
+        let Some(names) = names else {
+            return Ok(values);
+        };
+        for place in 0..names.len() {
+            if let Some(name) = names.name(place) {
+                let meaning = self.get(name.as_str().as_bytes());
+                values.push(meaning.value(alloc)?)?;
+            }
         }
         Ok(values)
     }

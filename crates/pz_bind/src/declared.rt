@@ -4,6 +4,7 @@
 ghost use Rattle.std.specs.Prelude.{◌≡◌};
 ghost use Rattle.std.specs.Option.{option_copied, option_map};
 ghost use Rattle.pz_syntax.specs.ClassView.{decl_view};
+ghost use Rattle.pz_classes_code.specs.devices.Above.{names_above};
 ghost use Rattle.pz_classes.specs.CheckedView.{checked_model};
 ghost use Rattle.pz_classes.specs.Members as members;
 ghost use Rattle.pz_classes.specs.Members.{spelled};
@@ -15,7 +16,8 @@ ghost use Rattle.pz_bind.specs.Nest as spec;
 ghost use Rattle.pz_bind.specs.devices.Layouts as layouts;
 
 use pz_classes::{Checked, channels_of, class_of_instance, instances_of, is_cluster};
-use pz_syntax::{Channel, Decl, Instance, Name};
+use pz_classes_code::NameFront;
+use pz_syntax::{Channel, Decl, Instance};
 use pz_value::ClassId;
 
 /// A checked model is sound: what that says of its system and its classes. Does nothing when it runs.
@@ -92,7 +94,7 @@ fn numbered_port(checked: &Checked, class: u32, name: &[u8]) -> Option<u32>
 {
     let classes = checked.classes();
     if (class as usize) < classes.count() {
-        classes.port(ClassId(class), name)
+        classes.ports(ClassId(class)).place(name)
     } else {
         None
     }
@@ -106,15 +108,16 @@ pub(crate) fn port_in(checked: &Checked, class: u32, name: &[u8]) -> Option<usiz
     Some(number as usize)
 }
 
-/// The parameters and variables of a class.
-pub(crate) fn variables_of(checked: &Checked, class: u32) -> &[Name]
-    ensures { result.now ≡ spelled (members.variables (checked_model checked.now) class) }
+/// The parameters and variables of a class, if there is one of this number.
+pub(crate) fn variables_of(checked: &Checked, class: u32) -> Option<&NameFront>
+    ensures { names_above (option_copied result) ≡ spelled (members.variables
+        (checked_model checked.now) class) }
 {
     let classes = checked.classes();
     if (class as usize) < classes.count() {
-        classes.variables(ClassId(class))
+        Some(classes.variables(ClassId(class)))
     } else {
-        &[]
+        None
     }
 }
 

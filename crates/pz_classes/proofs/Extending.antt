@@ -1,13 +1,20 @@
--- A class adds its own names to the end of a line.
-use Rattle.std.proofs.Common.{◌≡◌, sym, ap, ◌∙◌, subst, refl, ℕ, ◌+◌, ◌<◌, ◌≤◌, List, ◌++◌, length, take, get_or-set_same, get_or-set_other, ◌≢◌, arith, ◌⊎◌, inl, inr}
-use Rattle.std.proofs.Math.ListN.{set}
-use Rattle.std.proofs.lemmas.List.{length-append, length-set, take-append-le, take_all}
+-- A line of classes grows by one that extends its last.
+use Rattle.std.proofs.Common.{◌≡◌, refl, sym, ap, ◌∙◌, subst, ℕ, suc, ◌+◌, ◌<◌, ◌≤◌, List, [], ◌∷◌, ◌++◌, append_assoc, append-nil, length, take, Option, Some, arith}
+use Rattle.std.specs.List.{Contains}
+use Rattle.std.specs.Option.{option_map_or}
+use Rattle.std.proofs.lemmas.List.{length-append, take-append-le, take_all, map-append}
+use Rattle.std.proofs.lemmas.List.Elements.{All-append, All-weaker, All-nil, All-cons, Contains-append_left}
 use Rattle.pz_syntax.specs.Classes.{ModelTree}
+use Rattle.pz_classes_lineage.specs.Reached.{GoesRound}
+use Rattle.pz_classes.specs.Ancestors.{parent, ancestors}
 use Rattle.pz_classes.specs.declared.members.Members.{Members}
 use Rattle.pz_classes.specs.declared.members.Lengths.{Lengths}
-use Rattle.pz_classes.specs.declared.marks.Mark.{Mark}
-use Rattle.pz_classes.specs.devices.Inherited.{AddsAt, none_yet}
-use Rattle.pz_classes.specs.devices.Fronts.{front, lengths, AreWithin, line_at, Marks}
+use Rattle.pz_classes.specs.declared.line.End.{End}
+use Rattle.pz_classes.specs.devices.Inherited.{HasMembers, AddsAt, none_yet}
+use Rattle.pz_classes.specs.devices.Fronts.{front, lengths, total, behind, AreWithin, IsEnd, Inherits, IsLineTo, classes_of}
+use Rattle.pz_classes.proofs.Acyclic.{above}
+use Rattle.pz_classes.proofs.Heirs.{extends_within}
+use Rattle.pz_classes.proofs.Inheriting.{grows}
 
 -- a front of a list stays as it is where more comes behind
 same_front : (n : ℕ) (old more now : List (List ℕ)) → now ≡ old ++ more → n ≤ length old → take n now ≡ take n old
@@ -22,6 +29,9 @@ whole_front line =
     let variables : take (length line.variables) line.variables ≡ line.variables = take_all (length line.variables) line.variables (omega arith) in
     let ports : take (length line.ports) line.ports ≡ line.ports = take_all (length line.ports) line.ports (omega arith) in
     rw (fields, variables, ports) refl
+
+all_within : (line : Members) → AreWithin (lengths line) line
+all_within line = record { fields = omega arith; variables = omega arith; ports = omega arith }
 
 module _ (m : ModelTree) (c : ℕ) (old new : Members) (adds : AddsAt m c old new) (n : Lengths) (within : AreWithin n old) where
   front_kept : front n new ≡ front n old
@@ -38,37 +48,78 @@ module _ (m : ModelTree) (c : ℕ) (old new : Members) (adds : AddsAt m c old ne
     ports = still_within n.ports old.ports _ new.ports adds.ports within.ports;
   }
 
-module _ (m : ModelTree) (c : ℕ) (lines : List Members) (n : ℕ) (line : Members) (below : n < length lines) (adds : AddsAt m c (line_at lines n) line) where
-  here : line_at (set lines n line) n ≡ line
-  here = get_or-set_same lines n line none_yet below
+-- how many stand above, and how many behind them
+pub total_is : (up own : Members) → total (lengths up) (lengths own) ≡ lengths (behind up own)
+total_is up own =
+    let fields = length-append up.fields own.fields in
+    let variables = length-append up.variables own.variables in
+    let ports = length-append up.ports own.ports in
+    rw (fields, variables, ports) refl
 
-  there : (k : ℕ) → k ≢ n → line_at (set lines n line) k ≡ line_at lines k
-  there k other = get_or-set_other lines n k line none_yet other
+further : (xs old own new : List (List ℕ)) → new ≡ old ++ own → xs ++ new ≡ xs ++ old ++ own
+further xs old own new is = ap (λ (ys : List (List ℕ)). xs ++ ys) is ∙ sym (append_assoc xs old own)
 
-  is_place : (k : ℕ) → (k ≡ n) ⊎ (k ≢ n)
-  is_place k = grind arith
+adds_behind : (m : ModelTree) (c : ℕ) (up old new : Members) → AddsAt m c old new → AddsAt m c (behind up old) (behind up new)
+adds_behind m c up old new adds = record {
+  fields = further up.fields old.fields _ new.fields adds.fields;
+  variables = further up.variables old.variables _ new.variables adds.variables;
+  ports = further up.ports old.ports _ new.ports adds.ports;
+}
 
-  mark_kept : (k : Mark) → AreWithin k.lengths (line_at lines k.line) → (k.line ≡ n) ⊎ (k.line ≢ n) → AreWithin k.lengths (line_at (set lines n line) k.line)
-  mark_kept k within (inl same) = subst (λ (i : ℕ). AreWithin k.lengths (line_at (set lines n line) i)) (sym same)
-      (subst (AreWithin k.lengths) (sym here) (within_kept m c (line_at lines n) line adds k.lengths (subst (λ (i : ℕ). AreWithin k.lengths (line_at lines i)) same within)))
-  mark_kept k within (inr other) = subst (AreWithin k.lengths) (sym (there k.line other)) within
+nothing_above : (up : Members) → behind up none_yet ≡ up
+nothing_above up =
+    let fields = append-nil up.fields in
+    let variables = append-nil up.variables in
+    let ports = append-nil up.ports in
+    rw (fields, variables, ports) refl
 
-  names_kept : (k : Mark) → AreWithin k.lengths (line_at lines k.line) → (k.line ≡ n) ⊎ (k.line ≢ n) → front k.lengths (line_at (set lines n line) k.line) ≡ front k.lengths (line_at lines k.line)
-  names_kept k within (inl same) = subst (λ (i : ℕ). front k.lengths (line_at (set lines n line) i) ≡ front k.lengths (line_at lines i)) (sym same)
-      (ap (front k.lengths) here ∙ front_kept m c (line_at lines n) line adds k.lengths (subst (λ (i : ℕ). AreWithin k.lengths (line_at lines i)) same within))
-  names_kept k within (inr other) = ap (front k.lengths) (there k.line other)
+module _ (m : ModelTree) (flat : (c : ℕ) → GoesRound (parent m) c → ⊥) where
+  -- the end of a class that has all of the line
+  last_end : (c : ℕ) (up own : Members) → c < suc (length m.decls) → HasMembers m (ancestors m c) (behind up own) → IsEnd m (lengths up) (behind up own) (record { class = c; lengths = lengths own })
+  last_end c up own below has = record {
+    within = subst (λ (n : Lengths). AreWithin n (behind up own)) (sym (total_is up own)) (all_within (behind up own));
+    below = below;
+    has = subst (HasMembers m (ancestors m c)) (sym (ap (λ (n : Lengths). front n (behind up own)) (total_is up own) ∙ whole_front (behind up own))) has;
+  }
 
-  pub extends : Marks m c lines (line_at lines n) (set lines n line) (record { line = n; lengths = lengths line })
-  extends =
-      let size : length (set lines n line) ≡ length lines = length-set lines n line in
+  pub line_begins : (c : ℕ) (own : Members) → c < suc (length m.decls) → AddsAt m c none_yet own → IsLineTo m c own (record { class = c; lengths = lengths own } ∷ []) c
+  line_begins c own below adds =
+      let has_all : (up : Members) → Inherits m c up → HasMembers m (ancestors m c) (behind up own) = λ up inherits.
+      subst (λ (line : List ℕ). HasMembers m line (behind up own)) (sym (above m flat c below))
+      (grows m c (option_map_or (ancestors m) (parent m c) []) up (behind up own) inherits
+      (subst (λ (x : Members). AddsAt m c x (behind up own)) (nothing_above up) (adds_behind m c up none_yet own adds))) in
       record {
-        keeps = record {
-          mark = λ k at. record { below = (let before = at.below in omega arith); within = mark_kept k at.within (is_place k.line) };
-          names = λ k at. names_kept k at.within (is_place k.line);
-        };
         is = record {
-          below = omega arith;
-          within = subst (AreWithin (lengths line)) (sym here) (record { fields = omega arith; variables = omega arith; ports = omega arith });
+          begins = (0, omega arith, refl);
+          each = λ up inherits. All-cons (IsEnd m (lengths up) (behind up own)) (record { class = c; lengths = lengths own }) [] (last_end c up own below (has_all up inherits)) (All-nil (IsEnd m (lengths up) (behind up own)));
         };
-        adds = subst (AddsAt m c (line_at lines n)) (sym (ap (front (lengths line)) here ∙ whole_front line)) adds;
+        below = below;
+        has = has_all;
+      }
+
+  end_kept : (next : ℕ) (up old new : Members) → AddsAt m next old new → (e : End) → IsEnd m (lengths up) (behind up old) e → IsEnd m (lengths up) (behind up new) e
+  end_kept next up old new adds e is = record {
+    within = within_kept m next (behind up old) (behind up new) (adds_behind m next up old new adds) (total (lengths up) e.lengths) is.within;
+    below = is.below;
+    has = subst (HasMembers m (ancestors m e.class)) (sym (front_kept m next (behind up old) (behind up new) (adds_behind m next up old new adds) (total (lengths up) e.lengths) is.within)) is.has;
+  }
+
+  pub line_goes_on : (first last next : ℕ) (old new : Members) (ends : List End) → IsLineTo m first old ends last → parent m next ≡ Some last → AddsAt m next old new
+      → IsLineTo m first new (ends ++ record { class = next; lengths = lengths new } ∷ []) next
+  line_goes_on first last next old new ends line up_is adds =
+      let below : next < suc (length m.decls) = extends_within m next last up_is in
+      let has_all : (up : Members) → Inherits m first up → HasMembers m (ancestors m next) (behind up new) = λ up inherits.
+      subst (λ (l : List ℕ). HasMembers m l (behind up new)) (sym (above m flat next below ∙ ap (λ (o : Option ℕ). next ∷ option_map_or (ancestors m) o []) up_is))
+      (grows m next (ancestors m last) (behind up old) (behind up new) (line.has up inherits) (adds_behind m next up old new adds)) in
+      record {
+        is = record {
+          begins = subst (λ (cs : List ℕ). Contains cs first) (sym (map-append (λ (e : End). e.class) ends (record { class = next; lengths = lengths new } ∷ [])))
+              (Contains-append_left (classes_of ends) (next ∷ []) first line.is.begins);
+          each = λ up inherits.
+              All-append (IsEnd m (lengths up) (behind up new)) ends (record { class = next; lengths = lengths new } ∷ [])
+              (All-weaker (IsEnd m (lengths up) (behind up old)) (IsEnd m (lengths up) (behind up new)) (end_kept next up old new adds) ends (line.is.each up inherits))
+              (All-cons (IsEnd m (lengths up) (behind up new)) (record { class = next; lengths = lengths new }) [] (last_end next up new below (has_all up inherits)) (All-nil (IsEnd m (lengths up) (behind up new))));
+        };
+        below = below;
+        has = has_all;
       }

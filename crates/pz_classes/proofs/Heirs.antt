@@ -17,7 +17,7 @@ use Rattle.pz_classes.proofs.Reaching.{followed_from}
 use Rattle.pz_classes.proofs.Acyclic.{above}
 
 -- a class that extends another is declared
-extends_within : (m : ModelTree) (c p : ℕ) → parent m c ≡ Some p → c < suc (length m.decls)
+pub extends_within : (m : ModelTree) (c p : ℕ) → parent m c ≡ Some p → c < suc (length m.decls)
 extends_within m zero p up = cc
 extends_within m (suc i) p up = by_place (slice_get_cases m.decls i).1
   where

@@ -8,7 +8,6 @@ mod Rows
 mod Worked
 mod Agreeing
 mod Scopes
-mod Places
 mod Belongs
 mod Counting
 mod Overloads
@@ -22,7 +21,6 @@ pub mod Rounds
 mod Inheriting
 mod Filling
 mod Extending
-mod Marking
 mod Building
 pub mod Turned
 pub mod Elements

@@ -7,8 +7,8 @@ use Rattle.pz_syntax.specs.Classes.{ProcessMethodTree, StartTree, ModelTree}
 use Rattle.pz_syntax.specs.Statements.{Statements}
 use Rattle.pz_value.specs.declared.value.ClassId.{ClassId}
 use Rattle.pz_classes_code.specs.declared.numbering.Numbering.{Numbering}
-use Rattle.pz_classes_code.specs.declared.numbering.Places.{Places}
-use Rattle.pz_classes_code.specs.NumberIn.{number_in, number_below}
+use Rattle.pz_classes_code.specs.NumberIn.{number_in}
+use Rattle.pz_classes_code.specs.Places.{place_in}
 use Rattle.pz_classes_code.specs.declared.slot.Slot.{Slot}
 use Rattle.pz_classes_code.specs.Resolution.{Scope, resolved_all, resolved_statements}
 use Rattle.pz_classes.specs.Numbers.{declaration}
@@ -17,7 +17,7 @@ use Rattle.pz_classes.specs.Members.{spelled}
 use Rattle.pz_classes.specs.Starts.{own_start, start_call, own_call}
 use Rattle.pz_syntax.specs.Statements.{call}
 use Rattle.pz_classes_code.specs.StepView.{Tree}
-use Rattle.pz_classes.specs.Bodies.{place_in, scope_of, process_scope, process_locals, process_body, process_body_in}
+use Rattle.pz_classes.specs.Bodies.{scope_of, process_scope, process_locals, process_body, process_body_in}
 use Rattle.pz_classes.specs.devices.Surrounding.{scope_around}
 use Rattle.pz_classes.specs.declared.surroundings.Surroundings.{Surroundings}
 use Rattle.pz_classes.proofs.Agreeing.{agreeing}
@@ -29,20 +29,17 @@ Table = List ℕ → Option ℕ
 abbrev of_tables : Table → Table → Table → Table → Scope
 of_tables l s p c = record { locals = l; shared = s; ports = p; classes = c }
 
-abbrev placed_in : Places → Table
-placed_in p = number_below p.bound p.numbering.now
-
 same_scopes : (l s p c m t q d : Table) → l ≡ m → s ≡ t → p ≡ q → c ≡ d → of_tables l s p c ≡ of_tables m t q d
 same_scopes l s p c m t q d e f g h = rw (e, f, g, h) refl
 
 module _ (around : Surroundings) (classes places : Numbering) (names : List (List ℕ)) (count : ℕ) where
   -- a method's own names come from a numbering too
   abbrev pub held : Scope
-  held = of_tables (number_in places) (placed_in around.shared) (placed_in around.ports) (number_in classes)
+  held = of_tables (number_in places) (place_in around.shared.now.names) (place_in around.ports.now.names) (number_in classes)
 
   held_is : (ids : List Id) → names ≡ spelled ids → ((q : List ℕ) → number_in places q ≡ place_in names q) → held ≡ scope_around around classes ids
-  held_is ids spells placed = same_scopes (number_in places) (placed_in around.shared) (placed_in around.ports) (number_in classes)
-      (place_in (spelled ids)) (placed_in around.shared) (placed_in around.ports) (number_in classes)
+  held_is ids spells placed = same_scopes (number_in places) (place_in around.shared.now.names) (place_in around.ports.now.names) (number_in classes)
+      (place_in (spelled ids)) (place_in around.shared.now.names) (place_in around.ports.now.names) (number_in classes)
       (agreeing (number_in places) (place_in names) placed ∙ ap (λ (ns : List (List ℕ)). place_in ns) spells) refl refl refl
 
   counted : (ids : List Id) → names ≡ spelled ids → count ≡ length names → count ≡ length ids

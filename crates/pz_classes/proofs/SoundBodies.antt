@@ -24,7 +24,8 @@ use Rattle.pz_classes.specs.Numbers.{declaration, class}
 use Rattle.pz_classes.specs.Ancestors.{ancestors}
 use Rattle.pz_classes.specs.Members.{section, grouped, spelled, ports}
 use Rattle.pz_classes.specs.Methods.{Signature, same_counts, same_signature}
-use Rattle.pz_classes.specs.Bodies.{BodyTree, own_bodies, bodies_from, bodies, place_from, place_in, scope_of, data_scope, process_scope, data_locals, process_locals}
+use Rattle.pz_classes_code.specs.Places.{place_from, place_in}
+use Rattle.pz_classes.specs.Bodies.{BodyTree, own_bodies, bodies_from, bodies, scope_of, data_scope, process_scope, data_locals, process_locals}
 use Rattle.pz_classes.specs.Starts.{own_start, start_call, own_call, init}
 use Rattle.pz_classes.specs.Kinds.{is_data}
 use Rattle.pz_classes.specs.Words.{Mentions, is_among}

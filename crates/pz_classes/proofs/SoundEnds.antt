@@ -12,7 +12,7 @@ use Rattle.pz_syntax.specs.Classes.{DeclTree, ModelTree}
 use Rattle.pz_check_violations.specs.Order.{violation}
 use Rattle.pz_classes.specs.Numbers.{declaration}
 use Rattle.pz_classes.specs.Members.{ports, spelled}
-use Rattle.pz_classes.specs.Bodies.{place_from}
+use Rattle.pz_classes_code.specs.Places.{place_from}
 use Rattle.pz_classes.specs.Kinds.{is_cluster}
 use Rattle.pz_classes.specs.Words.{is_among}
 use Rattle.pz_classes.specs.Instances.{instances, channels}

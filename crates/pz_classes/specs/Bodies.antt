@@ -1,7 +1,6 @@
 -- The bodies of methods, with slots and numbers in place of names.
-use Rattle.std.specs.Prelude.{ℕ, suc, List, [], ◌∷◌, ◌++◌, length, map, Option, Some, None, if◌then◌else◌}
+use Rattle.std.specs.Prelude.{ℕ, suc, List, [], ◌∷◌, ◌++◌, length, map}
 use Rattle.std.specs.Option.{unwrap_or}
-use Rattle.std.specs.Str.{bytes_eq}
 use Rattle.pz_syntax.specs.declared.names.Id.{Id}
 use Rattle.pz_syntax.specs.Expressions.{Expressions}
 use Rattle.pz_syntax.specs.Statements.{Statements}
@@ -9,17 +8,9 @@ use Rattle.pz_syntax.specs.Classes.{DeclTree, data_class, process_class, DataMet
 use Rattle.pz_value.specs.declared.value.ClassId.{ClassId}
 use Rattle.pz_classes_code.specs.declared.slot.Slot.{Slot}
 use Rattle.pz_classes_code.specs.Resolution.{Scope, resolved_all, resolved_statements}
+use Rattle.pz_classes_code.specs.Places.{place_in}
 use Rattle.pz_classes.specs.Numbers.{class}
 use Rattle.pz_classes.specs.Members.{grouped, section, spelled, fields, variables, ports}
-
--- the place of the first of these names that is this one; the first place is n
-abbrev pub place_from : ℕ → List (List ℕ) → List ℕ → Option ℕ
-place_from n [] name = None
-place_from n (x ∷ xs) name = if bytes_eq name x then Some n else place_from (suc n) xs name
-
--- the number of a name among these, from 0; the first of two equal names counts
-abbrev pub place_in : List (List ℕ) → List ℕ → Option ℕ
-place_in names name = place_from 0 names name
 
 -- What names stand for in a method that has these of its own, in a class that has these fields or
 -- variables and these ports.

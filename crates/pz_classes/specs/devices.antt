@@ -3,7 +3,6 @@ pub mod Surrounding
 pub mod ViolationList
 pub mod Inherited
 pub mod Fronts
-pub mod Places
 pub mod Rounds
 pub mod Found
 pub mod Rows

@@ -5,11 +5,10 @@ ghost use Rattle.pz_syntax.specs.Classes.{ModelTree};
 ghost use Rattle.pz_syntax.specs.ClassView.{decl_view, model_view, data_method_view, process_method_view};
 ghost use Rattle.pz_classes_code.specs.NumberIn.{number_in};
 ghost use Rattle.pz_classes.specs.Numbers.{class};
-ghost use Rattle.pz_classes.specs.Ancestors.{ancestors, parent};
-ghost use Rattle.pz_classes_lineage.specs.Reached.{GoesRound};
+ghost use Rattle.pz_classes.specs.Ancestors.{ancestors};
 ghost use Rattle.pz_syntax.specs.ModelText.{decl_text, HasFewMarks};
 ghost use Rattle.pz_classes.specs.Members.{spelled};
-ghost use Rattle.pz_classes.specs.devices.Inherited.{HasMembers, AreFew};
+ghost use Rattle.pz_classes.specs.devices.Inherited.{HasMembers};
 ghost use Rattle.pz_classes.specs.Bodies as spec;
 ghost use Rattle.pz_classes.specs.BodyView.{body_view};
 ghost use Rattle.pz_classes.specs.devices.Surrounding.{scope_around, Numbers};
@@ -19,8 +18,8 @@ use crate::Body;
 use crate::entry::Entry;
 use crate::front::Front;
 use crate::members::{push_groups, push_section};
-use crate::surroundings::{Surroundings, count, places_of};
-use pz_classes_code::{Numbering, Scope, resolve_list, resolve_statements};
+use crate::surroundings::{Surroundings, count};
+use pz_classes_code::{Numbering, Scope, places_of, resolve_list, resolve_statements};
 use pz_items::Items;
 use pz_syntax::{DataMethod, Decl, Model, Name, ProcessMethod};
 use std::alloc::{AllocError, Global};
@@ -139,8 +138,7 @@ fn push_bodies(
     decl: &Decl,
     bodies: &mut Items<Body>,
 ) -> Result<(), AllocError>
-    requires members { AreFew members.now }
-    requires marks { length (decl_text (decl_view decl.now)) < 2 ^ 32 }
+    requires { length (decl_text (decl_view decl.now)) < 2 ^ 32 }
     ensures { OnOk result ((m : ModelTree) (c : ℕ) → Numbers m classes.now →
         HasMembers m (ancestors m c) members.now →
         map body_view bodies.new ≡ map body_view bodies.old ++ spec.own_bodies m c
@@ -176,7 +174,6 @@ pub(crate) fn bodies_of(
     requires numbered { Numbers (model_view model.now) numbering.now }
     requires listed { map row_view entries.now ≡ rows (model_view model.now) }
     requires few { HasFewMarks (model_view model.now) }
-    requires acyclic { (c : ℕ) → GoesRound (parent (model_view model.now)) c → ⊥ }
     requires room { length model.now.decls + 1 < 2 ^ 32 }
     ensures { IfOk result (λ bodies. map body_view bodies ≡ spec.bodies (model_view model.now)) }
 {

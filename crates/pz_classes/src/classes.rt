@@ -2,7 +2,7 @@ ghost use Rattle.std.specs.Prelude.{◌≡◌, ◌<◌, ◌+◌, ◌^◌, List, 
 ghost use Rattle.std.specs.Prelude.{Some, slice_get};
 ghost use Rattle.std.specs.Option.{option_map, option_and_then, option_copied};
 ghost use Rattle.pz_classes_code.specs.StepView as step;
-ghost use Rattle.pz_classes.specs.Bodies.{bodies, place_in};
+ghost use Rattle.pz_classes.specs.Bodies.{bodies};
 ghost use Rattle.pz_classes.specs.BodyView.{body_view};
 ghost use Rattle.pz_classes.specs.Starts.{init};
 ghost use Rattle.pz_syntax.specs.Classes.{ModelTree};
@@ -32,10 +32,10 @@ use crate::finding::{find, find_start};
 use crate::sharing::members_of_classes;
 use crate::tabling::entries_of;
 use crate::{Body, BuildError, Counts, MethodId, Step};
-use pz_classes_code::Numbering;
+use pz_classes_code::{NameFront, Numbering};
 use pz_classes_lineage::{Visit, go_round, preorder};
 use pz_items::Items;
-use pz_syntax::{Decl, Model, Name};
+use pz_syntax::{Decl, Model};
 use pz_value::{ClassId, Text};
 use std::alloc::{AllocError, Global};
 
@@ -171,42 +171,31 @@ impl Classes {
 
     /// The fields of a data class: those of its ancestors from the root on, in the order of the
     /// text. 32 bits number them.
-    pub fn fields(&self, class: ClassId) -> &[Name]
+    pub fn fields(&self, class: ClassId) -> &NameFront
         requires { HasClass self.now class }
         ensures fields { (m : ModelTree) → AreClasses m self.now →
-            result.now ≡ spelled (members.fields m class.0) }
-        ensures few { length result.now < 2 ^ 32 }
+            result.now.names ≡ spelled (members.fields m class.0) }
+        ensures few { length result.now.names < 2 ^ 32 }
     {
         self.entry(class).members.fields()
     }
 
     /// The parameters and variables of a process class, those of its ancestors first.
-    pub fn variables(&self, class: ClassId) -> &[Name]
+    pub fn variables(&self, class: ClassId) -> &NameFront
         requires { HasClass self.now class }
         ensures { (m : ModelTree) → AreClasses m self.now →
-            result.now ≡ spelled (members.variables m class.0) }
+            result.now.names ≡ spelled (members.variables m class.0) }
     {
         self.entry(class).members.variables()
     }
 
     /// The ports of a class, those of its ancestors first.
-    pub fn ports(&self, class: ClassId) -> &[Name]
+    pub fn ports(&self, class: ClassId) -> &NameFront
         requires { HasClass self.now class }
         ensures { (m : ModelTree) → AreClasses m self.now →
-            result.now ≡ spelled (members.ports m class.0) }
+            result.now.names ≡ spelled (members.ports m class.0) }
     {
         self.entry(class).members.ports()
-    }
-
-    /// The number of the first port of a class that has this name, from 0, those of its ancestors
-    /// first. None where it has none.
-    pub fn port(&self, class: ClassId, name: &[u8]) -> Option<u32>
-        requires { HasClass self.now class }
-        ensures { (m : ModelTree) → AreClasses m self.now →
-            result ≡ place_in (spelled (members.ports m class.0)) name.now }
-    {
-        let entry = self.entry(class);
-        entry.members.port_places().get(name)
     }
 
     /// The method of a data class with this name and number of inputs: that of the nearest ancestor

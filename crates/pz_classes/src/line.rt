@@ -1,143 +1,101 @@
-// A list of names that several classes share, of which each has the first.
+// The classes of a line, of which each extends the one before, and their names.
 
-ghost use Rattle.std.specs.Prelude.{◌≡◌, ◌<◌, ◌^◌, take, length, ℕ, List, IfOk};
-ghost use Rattle.pz_classes_code.specs.NumberIn.{number_in, number_below};
-ghost use Rattle.pz_classes.specs.Bodies.{place_in};
-ghost use Rattle.pz_classes.specs.devices.Places.{first_places};
+ghost use Rattle.std.specs.Prelude.{◌≡◌, ◌<◌, ◌+◌, ◌∷◌, [], ◌++◌, ℕ, Some, length, IfOk, IfSome, OnOk};
+ghost use Rattle.pz_syntax.specs.ClassView.{model_view};
+ghost use Rattle.pz_classes_lineage.specs.Parents.{parent_in};
+ghost use Rattle.pz_classes_lineage.specs.Reached.{GoesRound};
+ghost use Rattle.pz_classes.specs.Ancestors.{parent};
+ghost use Rattle.pz_classes.specs.devices.Inherited.{AddsAt};
+ghost use Rattle.pz_classes.specs.devices.Fronts.{lengths, IsLine, IsLineTo};
 
-use crate::members::Members;
-use crate::surroundings::places_of;
-use pz_classes_code::{Numbering, Places};
-use pz_syntax::Name;
+use crate::ancestry::parent_at;
+use crate::members::{Lengths, Members};
+use pz_syntax::Model;
 use std::alloc::{AllocError, Global};
-use std::marker::Model;
 
-/// The names of a line, and the place of each in it; of equal names the first counts. Contracts see the names.
+/// How many names of its line a class has: its own are the last of these.
+#[derive(Clone, Copy)]
+pub(crate) struct End {
+    pub(crate) class: u32,
+    pub(crate) lengths: Lengths,
+}
+
+/// What the classes of a line have of their own, one behind the other, and where each ends.
+#[derive(Drop)]
 pub(crate) struct Line {
-    names: Members,
-    fields: Numbering,
-    variables: Numbering,
-    ports: Numbering,
-}
-
-impl Model for Line {
-    ghost use Rattle.pz_classes.specs.declared.members.Members.{Members};
-    ghost use Rattle.pz_classes.specs.devices.Places.{ArePlaced};
-
-    ghost Value = { Members };
-
-    ghost view = { λ l. l.names };
-
-    ghost invariant = { λ l. ArePlaced l.names l.fields l.variables l.ports };
-}
-
-// Written out, so that it is proved once, here, and not in each function that drops one.
-impl Drop for Line {
-    fn drop(self) {
-        let Line {
-            names,
-            fields,
-            variables,
-            ports,
-        } = self;
-        std::mem::drop(names);
-        std::mem::drop(fields);
-        std::mem::drop(variables);
-        std::mem::drop(ports);
-    }
-}
-
-/// The first of the names, so many of them; all where there are fewer.
-pub(crate) fn first(names: &[Name], count: usize) -> &[Name]
-    ensures { result.now ≡ take count names.now }
-{
-    if count < names.len() {
-        &names[..count]
-    } else {
-        names
-    }
-}
-
-/// The places of the first names, of as many as 32 bits number. The only error is want of memory.
-fn first_places(alloc: Global, names: &[Name]) -> Result<Numbering, AllocError>
-    ensures { IfOk result (λ n. (q : List ℕ) → number_in n q ≡ first_places names.now q) }
-{
-    places_of(alloc, first(names, u32::MAX as usize))
-}
-
-/// The places, as far as they are below that of the first name that is not among these.
-fn below<'a>(numbering: &'a Numbering, names: &[Name]) -> Places<'a>
-    requires { length names.now < 2 ^ 32 }
-    ensures { (q : List ℕ) → number_below result.bound result.numbering.now q ≡
-        number_below (length names.now) numbering.now q }
-{
-    Places {
-        numbering,
-        bound: names.len() as u32,
-    }
+    pub(crate) own: Members,
+    pub(crate) ends: Vec<End>,
 }
 
 impl Line {
-    /// The line of these names. The only error is want of memory.
-    pub(crate) fn new(alloc: Global, names: Members) -> Result<Line, AllocError>
-        ensures { IfOk result (λ line. line ≡ names) }
+    /// Adds the class of this number to the end. The only error is want of memory.
+    fn add(&mut self, model: &Model, class: u32) -> Result<(), AllocError>
+        ensures own { OnOk result (AddsAt (model_view model.now) class self.old.own self.new.own) }
+        ensures ends { OnOk result (self.new.ends.items ≡ self.old.ends.items ++
+            (record { class = class; lengths = lengths self.new.own }) ∷ []) }
     {
-        let fields = first_places(alloc, names.fields.as_slice())?;
-        let variables = first_places(alloc, names.variables.as_slice())?;
-        let ports = first_places(alloc, names.ports.as_slice())?;
-        Ok(Line {
-            names,
-            fields,
-            variables,
-            ports,
-        })
+        self.own.add_own_of(model, class)?;
+        let lengths = self.own.lengths();
+        self.ends.push(End { class, lengths })?;
+        Ok(())
     }
+}
 
-    /// So many of the first fields.
-    pub(crate) fn fields(&self, count: usize) -> &[Name]
-        ensures { result.now ≡ take count self.now.fields }
-    {
-        first(self.names.fields.as_slice(), count)
+/// The class that goes on with the line of this one: its heir, if that extends it.
+fn next_in(parents: &[Option<u32>], heirs: &[Option<u32>], class: u32) -> Option<u32>
+    ensures { IfSome result (λ next. parent_in parents.now next ≡ Some class) }
+{
+    let heir = parent_at(heirs, class)?;
+    if parent_at(parents, heir) == Some(class) {
+        Some(heir)
+    } else {
+        None
     }
+}
 
-    /// So many of the first variables.
-    pub(crate) fn variables(&self, count: usize) -> &[Name]
-        ensures { result.now ≡ take count self.now.variables }
-    {
-        first(self.names.variables.as_slice(), count)
+/// Adds the heir of the class that the line ends with, the heir of that, and so on. The only error
+/// is want of memory.
+fn follow(
+    model: &Model,
+    parents: &[Option<u32>],
+    heirs: &[Option<u32>],
+    first: u32,
+    line: &mut Line,
+) -> Result<(), AllocError>
+    requires extending { (c : ℕ) → parent_in parents.now c ≡ parent (model_view model.now) c }
+    requires acyclic { (c : ℕ) → GoesRound (parent (model_view model.now)) c → ⊥ }
+    requires begun { IsLineTo (model_view model.now) first line.old.own line.old.ends.items first }
+    ensures { OnOk result (IsLine (model_view model.now) first line.new.own line.new.ends.items) }
+{
+    let mut last = first;
+    for _step in 0..parents.len() {
+        let Some(next) = next_in(parents, heirs, last) else {
+            return Ok(());
+        };
+        line.add(model, next)?;
+        last = next;
     }
+    Ok(())
+}
 
-    /// So many of the first ports.
-    pub(crate) fn ports(&self, count: usize) -> &[Name]
-        ensures { result.now ≡ take count self.now.ports }
-    {
-        first(self.names.ports.as_slice(), count)
-    }
-
-    /// The places of so many of the first fields.
-    pub(crate) fn field_places(&self, count: usize) -> Places<'_>
-        requires { length (take count self.now.fields) < 2 ^ 32 }
-        ensures { (q : List ℕ) → number_below result.bound result.numbering.now q ≡
-            place_in (take count self.now.fields) q }
-    {
-        below(&self.fields, self.fields(count))
-    }
-
-    /// The places of so many of the first variables.
-    pub(crate) fn variable_places(&self, count: usize) -> Places<'_>
-        requires { length (take count self.now.variables) < 2 ^ 32 }
-        ensures { (q : List ℕ) → number_below result.bound result.numbering.now q ≡
-            place_in (take count self.now.variables) q }
-    {
-        below(&self.variables, self.variables(count))
-    }
-
-    /// The places of so many of the first ports.
-    pub(crate) fn port_places(&self, count: usize) -> Places<'_>
-        requires { length (take count self.now.ports) < 2 ^ 32 }
-        ensures { (q : List ℕ) → number_below result.bound result.numbering.now q ≡
-            place_in (take count self.now.ports) q }
-    {
-        below(&self.ports, self.ports(count))
-    }
+/// The line that begins with this class. The only error is want of memory.
+pub(crate) fn line_from(
+    alloc: Global,
+    model: &Model,
+    parents: &[Option<u32>],
+    heirs: &[Option<u32>],
+    first: u32,
+) -> Result<Line, AllocError>
+    requires extending { (c : ℕ) → parent_in parents.now c ≡ parent (model_view model.now) c }
+    requires acyclic { (c : ℕ) → GoesRound (parent (model_view model.now)) c → ⊥ }
+    requires within { first < length model.now.decls + 1 }
+    ensures { IfOk result (λ line. IsLine (model_view model.now) first line.own line.ends.items) }
+{
+    let mut line = Line {
+        own: Members::new(alloc),
+        ends: Vec::new(alloc),
+    };
+    line.add(model, first)?;
+    follow(model, parents, heirs, first, &mut line)?;
+    Ok(line)
 }

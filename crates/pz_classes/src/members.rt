@@ -5,33 +5,19 @@ ghost use Rattle.std.specs.Option.{unwrap_or};
 ghost use Rattle.pz_syntax.specs.ClassView.{decl_view, model_view};
 ghost use Rattle.pz_classes.specs.Members.{spelled, grouped, section};
 ghost use Rattle.pz_classes.specs.devices.Inherited.{Adds, AddsAt, none_yet};
-ghost use Rattle.pz_classes.specs.devices.Fronts.{front, lengths};
+ghost use Rattle.pz_classes.specs.devices.Fronts.{lengths};
 
 use crate::declarations::declaration;
-use crate::line::first;
 use pz_items::Items;
 use pz_syntax::{Decl, Id, Model, Name, VarGroup};
 use std::alloc::{AllocError, Global};
 
-/// The names of what a class has, those of its ancestors first.
+/// Names of fields, variables and ports, in the order in which classes declare them.
+#[derive(Drop)]
 pub(crate) struct Members {
     pub(crate) fields: Items<Name>,
     pub(crate) variables: Items<Name>,
     pub(crate) ports: Items<Name>,
-}
-
-// Written out, so that it is proved once, here, and not in each function that drops one.
-impl Drop for Members {
-    fn drop(self) {
-        let Members {
-            fields,
-            variables,
-            ports,
-        } = self;
-        std::mem::drop(fields);
-        std::mem::drop(variables);
-        std::mem::drop(ports);
-    }
 }
 
 /// How many fields, variables and ports there are.
@@ -40,17 +26,6 @@ pub(crate) struct Lengths {
     pub(crate) fields: usize,
     pub(crate) variables: usize,
     pub(crate) ports: usize,
-}
-
-/// The same names again. The only error is want of memory.
-fn copies(alloc: Global, names: &[Name]) -> Result<Items<Name>, AllocError>
-    ensures { IfOk result (λ copies. copies ≡ names.now) }
-{
-    let mut copies = Items::with_capacity(alloc, names.len())?;
-    for name in names {
-        copies.push(name.copy()?)?;
-    }
-    Ok(copies)
 }
 
 fn push_ids(names: &mut Items<Name>, ids: &[Id]) -> Result<(), AllocError>
@@ -113,20 +88,6 @@ impl Members {
             variables: self.variables.len(),
             ports: self.ports.len(),
         }
-    }
-
-    /// The front with these lengths again. The only error is want of memory.
-    pub(crate) fn copy_front(&self, alloc: Global, lengths: Lengths) -> Result<Members, AllocError>
-        ensures { IfOk result (λ copy. copy ≡ front lengths self.now) }
-    {
-        let fields = copies(alloc, first(self.fields.as_slice(), lengths.fields))?;
-        let variables = copies(alloc, first(self.variables.as_slice(), lengths.variables))?;
-        let ports = copies(alloc, first(self.ports.as_slice(), lengths.ports))?;
-        Ok(Members {
-            fields,
-            variables,
-            ports,
-        })
     }
 
     /// Adds what the class of this declaration has of its own. The only error is want of memory.

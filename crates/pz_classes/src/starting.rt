@@ -9,7 +9,7 @@ ghost use Rattle.pz_classes_code.specs.StepView as step;
 ghost use Rattle.pz_classes_code.specs.Resolution.{resolved_all};
 ghost use Rattle.pz_classes.specs.Numbers.{declaration as declared};
 ghost use Rattle.pz_classes.specs.Ancestors.{ancestors};
-ghost use Rattle.pz_classes.specs.devices.Inherited.{HasMembers, AreFew};
+ghost use Rattle.pz_classes.specs.devices.Inherited.{HasMembers};
 ghost use Rattle.pz_classes.specs.Starts.{own_start, own_call};
 ghost use Rattle.pz_classes.specs.devices.Surrounding.{scope_around, Numbers};
 
@@ -81,7 +81,6 @@ pub(crate) fn start_at(
     class: u32,
 ) -> Result<Option<Step>, AllocError>
     requires numbered { Numbers (model_view model.now) classes.now }
-    requires few { AreFew members.now }
     requires inherited { HasMembers (model_view model.now)
         (ancestors (model_view model.now) class) members.now }
     ensures { IfOk result (λ s. option_map step.view s ≡ own_call (model_view model.now) class) }

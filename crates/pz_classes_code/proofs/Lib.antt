@@ -2,3 +2,4 @@ mod Branches
 mod ResolvedLists
 mod ResolvedSteps
 mod Numberings
+mod Places

@@ -5,3 +5,6 @@ pub mod Resolution
 pub mod ScopeView
 pub mod ReservedNames
 pub mod NumberIn
+pub mod Places
+pub mod Listed
+pub mod devices

@@ -5,6 +5,7 @@
 mod body;
 mod code;
 mod literals;
+mod names;
 mod numbering;
 mod reserved;
 mod resolving;
@@ -15,7 +16,8 @@ mod step;
 pub use body::Body;
 pub use code::{Code, CodeForm, CodeLink, CodeSending};
 pub use literals::constant;
-pub use numbering::{Numbering, Places};
+pub use names::{NameFront, NameList};
+pub use numbering::{Numbering, places_of};
 pub use reserved::{is_array, is_object, is_primitive, is_unsupported};
 pub use resolving::{resolve_list, resolve_statements};
 pub use scope::Scope;

@@ -1,7 +1,9 @@
-ghost use Rattle.std.specs.Prelude.{◌≡◌, List, ℕ, None, Some, OnOk, if◌then◌else◌};
+ghost use Rattle.std.specs.Prelude.{◌≡◌, ◌<◌, ◌^◌, List, ℕ, None, Some, IfOk, OnOk, length, take, if◌then◌else◌};
 ghost use Rattle.std.specs.Option.{option_or};
 ghost use Rattle.std.specs.Str.{bytes_eq};
-ghost use Rattle.pz_classes_code.specs.NumberIn.{number_in, number_below};
+ghost use Rattle.pz_classes_code.specs.NumberIn.{number_in};
+ghost use Rattle.pz_classes_code.specs.Places.{place_in};
+ghost use Rattle.pz_classes_code.specs.devices.Above.{ArePlaced};
 
 use indexmap::IndexMap;
 use pz_syntax::Name;
@@ -50,24 +52,35 @@ impl Numbering {
     }
 }
 
-/// The numbers of names, as far as they are below a bound. Where the names of a list are numbered by their places, these
-/// are the places of the names that it begins with.
-#[derive(Clone, Copy)]
-pub struct Places<'a> {
-    pub numbering: &'a Numbering,
-    pub bound: u32,
+/// The numbers of names by their places, from 0; of equal names the first counts. The only error is
+/// want of memory.
+pub fn places_of(alloc: Global, names: &[Name]) -> Result<Numbering, AllocError>
+    requires { length names.now < 2 ^ 32 }
+    ensures { IfOk result (λ n. (q : List ℕ) → number_in n q ≡ place_in names.now q) }
+{
+    let mut numbering = Numbering::new(alloc);
+    let mut place = 0u32;
+    for name in names {
+        numbering.add(alloc, name, place)?;
+        place += 1;
+    }
+    Ok(numbering)
 }
 
-impl Places<'_> {
-    /// The number of a name, if it has one below the bound.
-    pub fn get(&self, name: &[u8]) -> Option<u32>
-        ensures { result ≡ number_below self.now.bound self.now.numbering.now name.now }
-    {
-        let number = self.numbering.get(name)?;
-        if number < self.bound {
-            Some(number)
-        } else {
-            None
-        }
+/// The first of the names, so many of them; all where there are fewer.
+fn first(names: &[Name], count: usize) -> &[Name]
+    ensures { result.now ≡ take count names.now }
+{
+    if count < names.len() {
+        &names[..count]
+    } else {
+        names
     }
+}
+
+/// The places of the first names, of as many as 32 bits number. The only error is want of memory.
+pub(crate) fn first_places(alloc: Global, names: &[Name]) -> Result<Numbering, AllocError>
+    ensures { IfOk result (ArePlaced names.now) }
+{
+    places_of(alloc, first(names, u32::MAX as usize))
 }

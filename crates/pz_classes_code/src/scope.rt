@@ -4,7 +4,7 @@ ghost use Rattle.std.specs.Prelude.{◌≡◌, IfOk};
 ghost use Rattle.pz_classes_code.specs.Resolution as spec;
 ghost use Rattle.pz_classes_code.specs.ScopeView.{scope_view};
 
-use crate::{Numbering, Places, Slot, is_array};
+use crate::{NameFront, Numbering, Slot, is_array};
 use pz_items::Items;
 use pz_syntax::{Id, Name};
 use pz_value::ClassId;
@@ -18,8 +18,8 @@ const UNKNOWN: u32 = u32::MAX;
 #[derive(Drop)]
 pub struct Scope<'a> {
     pub locals: &'a Numbering,
-    pub shared: Places<'a>,
-    pub ports: Places<'a>,
+    pub shared: &'a NameFront,
+    pub ports: &'a NameFront,
     pub classes: &'a Numbering,
 }
 
@@ -32,7 +32,7 @@ impl Scope<'_> {
         if let Some(number) = self.locals.get(bytes) {
             return Slot::Local(number);
         }
-        match self.shared.get(bytes) {
+        match self.shared.place(bytes) {
             Some(number) => Slot::Shared(number),
             None => Slot::Unknown,
         }
@@ -55,7 +55,7 @@ impl Scope<'_> {
     pub fn port(&self, name: &Name) -> u32
         ensures { result ≡ spec.port_of (scope_view self.now) name.now }
     {
-        match self.ports.get(name.as_str().as_bytes()) {
+        match self.ports.place(name.as_str().as_bytes()) {
             Some(number) => number,
             None => UNKNOWN,
         }

@@ -1,6 +1,6 @@
 -- In a session of a sound model each command has a reply.
 use Rattle.std.proofs.Common.{◌≡◌, ◌⊎◌, inl, inr, ⊎_elim, ◌≤◌, ◌<◌, ◌-◌, ℕ, zero, suc, Bool, true, false, List, [], ◌∷◌, ◌++◌, length, take, get_or, Option, Some, None, refl, sym, ap, subst, ◌∙◌, arith}
-use Rattle.std.specs.List.{position}
+use Rattle.pz_classes_code.specs.Places.{place_in}
 use Rattle.std.specs.Str.{bytes_eq}
 use Rattle.std.proofs.lemmas.List.{append-nil}
 use Rattle.std.proofs.lemmas.Option.{slice_get-get_or, slice_get_within}
@@ -189,14 +189,14 @@ module _ (known : Known) (setting : Setting) (sound : IsSound setting.model) whe
           stays (show word name) _ (replies.shows xs x.end x.standing word name i v packed.0 (subst (λ (t : Simulation). StandsAfter setting xs t) x.is_there x) is
           (record { process = process; stands = slice_get-get_or x.end.processes i some_process there; is_parcel = packed.1 }))
 
-      found_in : (i : ℕ) (is : IsFirst m word i) (o : Option ℕ) → position (λ y. bytes_eq y name) (spelled (variables m (class_at m (get_or (processes m) i [])))) ≡ o → HasReply setting line xs (show word name)
+      found_in : (i : ℕ) (is : IsFirst m word i) (o : Option ℕ) → place_in (spelled (variables m (class_at m (get_or (processes m) i [])))) name ≡ o → HasReply setting line xs (show word name)
       found_in i is None absent = stays (show word name) refused_show_line (replies.shows_none xs word name (no_variable m word i is name absent))
       found_in i is (Some v) there = holding i v (a_variable m word i is name v there)
 
       some_show : HasReply setting line xs (show word name)
       some_show =
           elim (searched (length (processes m)) (omega arith)) [
-            | inl here ↦ found_in here.0 here.1 (position (λ y. bytes_eq y name) (spelled (variables m (class_at m (get_or (processes m) here.0 []))))) refl
+            | inl here ↦ found_in here.0 here.1 (place_in (spelled (variables m (class_at m (get_or (processes m) here.0 [])))) name) refl
             | inr none_has ↦ stays (show word name) refused_show_line (replies.shows_none xs word name (none_named m word name none_has))
           ]
 

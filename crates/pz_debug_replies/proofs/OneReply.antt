@@ -1,7 +1,7 @@
 -- A command has one reply.
 use Rattle.std.proofs.Common.{◌≡◌, ◌≤◌, ◌<◌, ◌-◌, ◌⊎◌, inl, inr, refl, sym, ap, subst, ◌∙◌, ℕ, zero, suc, List, [], ◌∷◌, ◌++◌, length, take, Some, None, arith}
 use Rattle.std.specs.Prelude.{slice_get}
-use Rattle.std.specs.List.{position}
+use Rattle.pz_classes_code.specs.Places.{place_in}
 use Rattle.std.specs.Str.{bytes_eq}
 use Rattle.pz_syntax.specs.Classes.{ModelTree}
 use Rattle.pz_classes.specs.Members.{variables, spelled}
@@ -70,7 +70,7 @@ module _ (m : ModelTree) (path name : List ℕ) (i j v w : ℕ) (is : IsVariable
   one_place_of = some_is (sym is.is_process ∙ ap (slice_get (processes m)) one_process ∙ are.is_process)
 
   one_variable : v ≡ w
-  one_variable = some_is (sym is.is_variable ∙ ap (λ (p : Address). position (λ x. bytes_eq x name) (spelled (variables m (class_at m p)))) one_place_of ∙ are.is_variable)
+  one_variable = some_is (sym is.is_variable ∙ ap (λ (p : Address). place_in (spelled (variables m (class_at m p))) name) one_place_of ∙ are.is_variable)
 
 -- and its variable holds one value, which has one parcel
 one_value : SendsHaveParcels → (m : ModelTree) (c : Config) (i v : ℕ) (p q : ParcelView) → HoldsValue c i v p → HoldsValue c i v q → p ≡ q

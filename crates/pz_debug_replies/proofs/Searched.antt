@@ -4,7 +4,7 @@ use Rattle.std.proofs.Math.Logic.{∥∥₁_elim}
 use base.Stored.{Coded-set}
 use Rattle.std.specs.Coded.{coded_ℕ, coded_list, le_prop}
 use Rattle.std.specs.Prelude.{slice_get, IsTrue}
-use Rattle.std.specs.List.{position}
+use Rattle.pz_classes_code.specs.Places.{place_in}
 use Rattle.std.specs.Option.{option_map_or}
 use Rattle.std.specs.Str.{bytes_eq}
 use Rattle.std.proofs.lemmas.Slice.Eq.{bytes_eq-Decides}
@@ -87,10 +87,10 @@ module _ (m : ModelTree) (word : List ℕ) where
             at (inl also) = omega (arith, up_to, also)
             at (inr below) = absurd (is.first j below (path_at j x.place x.is_process ∙ x.is_path))
 
-    pub no_variable : (name : List ℕ) → position (λ x. bytes_eq x name) (spelled (variables m (class_at m place))) ≡ None → (j v : ℕ) → IsVariable m word name j v → ⊥
+    pub no_variable : (name : List ℕ) → place_in (spelled (variables m (class_at m place))) name ≡ None → (j v : ℕ) → IsVariable m word name j v → ⊥
     no_variable name absent j v x =
         let same : x.place ≡ place = some_is (sym x.is_process ∙ ap (slice_get (processes m)) (same_process name j v x) ∙ there) in
-        none_some (sym absent ∙ subst (λ (p : Address). position (λ y. bytes_eq y name) (spelled (variables m (class_at m p))) ≡ Some v) same x.is_variable)
+        none_some (sym absent ∙ subst (λ (p : Address). place_in (spelled (variables m (class_at m p))) name ≡ Some v) same x.is_variable)
       where
         some_is : {p q : Address} → Some p ≡ Some q → p ≡ q
         some_is e = cc
@@ -98,7 +98,7 @@ module _ (m : ModelTree) (word : List ℕ) where
         none_some : {n : ℕ} → None ≡ Some n → ⊥
         none_some e = cc
 
-    pub a_variable : (name : List ℕ) (v : ℕ) → position (λ x. bytes_eq x name) (spelled (variables m (class_at m place))) ≡ Some v → IsVariable m word name i v
+    pub a_variable : (name : List ℕ) (v : ℕ) → place_in (spelled (variables m (class_at m place))) name ≡ Some v → IsVariable m word name i v
     a_variable name v found = record {
       place = place;
       is_process = there;
@@ -110,10 +110,10 @@ module _ (m : ModelTree) (word : List ℕ) where
 -- what was found by another name of the model
 
 module _ (m n : ModelTree) (word name : List ℕ) (i : ℕ) (is : IsFirst m word i) (o : Option ℕ) (same : n ≡ m)
-    (says : (place : Address) → slice_get (processes n) i ≡ Some place → o ≡ position (λ x. bytes_eq x name) (spelled (variables n (class_at n place)))) where
-  found_as : o ≡ position (λ x. bytes_eq x name) (spelled (variables m (class_at m (get_or (processes m) i []))))
+    (says : (place : Address) → slice_get (processes n) i ≡ Some place → o ≡ place_in (spelled (variables n (class_at n place))) name) where
+  found_as : o ≡ place_in (spelled (variables m (class_at m (get_or (processes m) i [])))) name
   found_as =
-      subst (λ (k : ModelTree). (place : Address) → slice_get (processes k) i ≡ Some place → o ≡ position (λ x. bytes_eq x name) (spelled (variables k (class_at k place)))) same says
+      subst (λ (k : ModelTree). (place : Address) → slice_get (processes k) i ≡ Some place → o ≡ place_in (spelled (variables k (class_at k place))) name) same says
       (get_or (processes m) i []) (there m word i is)
 
   pub is_there : (v : ℕ) → o ≡ Some v → IsVariable m word name i v
@@ -134,12 +134,6 @@ declared_within ds i (Some d) at is = slice_get_within ds i d at
 class_within : (m : ModelTree) (c : ℕ) → IsTrue (option_map_or is_process (declaration m c) false) → c < suc (length m.decls)
 class_within m zero is = omega arith
 class_within m (suc i) is = let below = declared_within m.decls i (slice_get m.decls i) refl is in omega (arith, below)
-
-pub few_variables : (m : ModelTree) → HasFewMarks m → IsSound m → (c : ℕ) → IsTrue (option_map_or is_process (declaration m c) false) → length (spelled (variables m c)) < 2 ^ 32
-few_variables m few sound c is =
-    let count = variables_few m (nobody_goes_round m sound.classes) c (class_within m c is) in
-    let same : length (spelled (variables m c)) ≡ length (variables m c) = length-map (variables m c) (λ (x : Id). x.name) in
-    omega (arith, few, count, same)
 
 -- one more process without the path
 pub not_yet : (m : ModelTree) (word : List ℕ) (n : ℕ) → ((j : ℕ) → j < n → path_of m j ≡ word → ⊥) → (path_of m n ≡ word → ⊥) → (j : ℕ) → j < n + 1 → path_of m j ≡ word → ⊥

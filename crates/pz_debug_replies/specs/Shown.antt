@@ -1,6 +1,6 @@
 -- Which variable of which process is meant. What it holds is said by `Shown` of `pz_term_simulator`.
 use Rattle.std.specs.Prelude.{◌≡◌, ◌<◌, ℕ, List, Some, slice_get}
-use Rattle.std.specs.List.{position}
+use Rattle.pz_classes_code.specs.Places.{place_in}
 use Rattle.std.specs.Str.{bytes_eq}
 use Rattle.pz_syntax.specs.Classes.{ModelTree}
 use Rattle.pz_classes.specs.Members.{variables, spelled}
@@ -15,4 +15,4 @@ pub record IsVariable (m : ModelTree) (word name : List ℕ) (i v : ℕ) : Type 
   pub is_process : slice_get (processes m) i ≡ Some place
   pub is_path : path m place ≡ word
   pub first : (j : ℕ) (other : Address) → j < i → slice_get (processes m) j ≡ Some other → path m other ≡ word → ⊥
-  pub is_variable : position (λ x. bytes_eq x name) (spelled (variables m (class_at m place))) ≡ Some v
+  pub is_variable : place_in (spelled (variables m (class_at m place))) name ≡ Some v

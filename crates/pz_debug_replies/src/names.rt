@@ -1,7 +1,7 @@
 // The names of processes, of their variables and of classes. Takes no memory.
 
-ghost use Rattle.std.specs.Prelude.{◌≡◌, ◌<◌, ◌^◌, ℕ, length, MatchOption, Some, slice_get, IfSome};
-ghost use Rattle.std.specs.List.{position};
+ghost use Rattle.std.specs.Prelude.{◌≡◌, ◌<◌, ℕ, length, MatchOption, Some, slice_get, IfSome};
+ghost use Rattle.pz_classes_code.specs.Places.{place_in};
 ghost use Rattle.std.specs.Str.{bytes_eq};
 ghost use Rattle.pz_syntax.specs.Classes.{ModelTree};
 ghost use Rattle.pz_classes.specs.CheckedView.{checked_model};
@@ -16,7 +16,7 @@ ghost use Rattle.pz_debug_replies.specs.devices.Searching.{IsFirst, IsOfNone};
 
 use pz_bind::Net;
 use pz_classes::Checked;
-use pz_syntax::Name;
+use pz_classes_code::NameFront;
 use pz_value::Text;
 
 /// The names of the classes, each at its number.
@@ -63,16 +63,14 @@ pub(crate) fn find_process(net: &Net, word: &[u8]) -> Option<u32>
 }
 
 // The names of the variables of a process.
-fn variables_of<'a>(checked: &'a Checked, net: &Net, process: u32) -> &'a [Name]
+fn variables_of<'a>(checked: &'a Checked, net: &Net, process: u32) -> &'a NameFront
     requires of_model { ∥ IsNet (checked_model checked.now) net.now ∥₁ }
     requires belongs { HasProcess net.now process }
-    ensures named { (place : Address) →
+    ensures { (place : Address) →
         slice_get (processes (checked_model checked.now)) process ≡ Some place →
-        result.now ≡ spelled (variables (checked_model checked.now)
+        result.now.names ≡ spelled (variables (checked_model checked.now)
         (class_at (checked_model checked.now) place)) }
-    ensures few { length result.now < 2 ^ 32 }
 {
-    let _model = checked.model();
     checked.classes().variables(net.class(process))
 }
 
@@ -82,21 +80,8 @@ pub(crate) fn find_variable(checked: &Checked, net: &Net, process: u32, name: &[
     requires belongs { HasProcess net.now process }
     ensures { (place : Address) →
         slice_get (processes (checked_model checked.now)) process ≡ Some place →
-        result ≡ position (λ x. bytes_eq x name.now) (spelled (variables
-        (checked_model checked.now) (class_at (checked_model checked.now) place))) }
+        result ≡ place_in (spelled (variables
+        (checked_model checked.now) (class_at (checked_model checked.now) place))) name.now }
 {
-    let names = variables_of(checked, net, process);
-    match place_of(names, name) {
-        Some(number) => Some(number as u32),
-        None => None,
-    }
-}
-
-// The place of the first of these names that is this one.
-fn place_of(names: &[Name], name: &[u8]) -> Option<usize>
-    ensures { result ≡ position (λ x. bytes_eq x name.now) names.now }
-{
-    names
-        .iter()
-        .position(|other| other.as_str().as_bytes() == name)
+    variables_of(checked, net, process).place(name)
 }

@@ -14,7 +14,8 @@ ghost use Rattle.pz_env.specs.devices.Standing.{first_of, is_port_of, is_port_at
 
 use crate::ends::EndSet;
 use pz_classes::{Classes, channels_of, class_of_instance, instances_of};
-use pz_syntax::{Channel, ChannelEnd, Decl, Instance, Model, Name};
+use pz_classes_code::NameFront;
+use pz_syntax::{Channel, ChannelEnd, Decl, Instance, Model};
 use pz_value::ClassId;
 use std::alloc::{AllocError, Global};
 
@@ -51,9 +52,9 @@ pub(crate) fn system_channels(model: &Model) -> &[Channel]
 }
 
 /// The ports of an instance.
-fn ports_of<'a>(model: &Model, classes: &'a Classes, instance: &Instance) -> &'a [Name]
+fn ports_of<'a>(model: &Model, classes: &'a Classes, instance: &Instance) -> &'a NameFront
     requires { AreClasses (model_view model.now) classes.now }
-    ensures { result.now ≡ spelled (members.ports (model_view model.now)
+    ensures { result.now.names ≡ spelled (members.ports (model_view model.now)
         (nest.class_of (model_view model.now) instance.now)) }
 {
     match class_of_instance(model, classes, &instance.class.name) {
@@ -69,13 +70,15 @@ fn ports_of<'a>(model: &Model, classes: &'a Classes, instance: &Instance) -> &'a
 fn add_ports<'a>(
     ends: &mut EndSet<'a>,
     instance: &'a [u8],
-    ports: &'a [Name],
+    ports: &'a NameFront,
 ) -> Result<(), AllocError>
     ensures { OnOk result ((e : Named) → has_end (ends_in ends.new) e ≡
-        (has_end (ends_in ends.old) e || is_port_of instance.now ports.now e)) }
+        (has_end (ends_in ends.old) e || is_port_of instance.now ports.now.names e)) }
 {
-    for port in ports {
-        ends.add(instance, port.as_str().as_bytes())?;
+    for place in 0..ports.len() {
+        if let Some(port) = ports.name(place) {
+            ends.add(instance, port.as_str().as_bytes())?;
+        }
     }
     Ok(())
 }

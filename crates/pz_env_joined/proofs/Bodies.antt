@@ -28,7 +28,8 @@ use Rattle.pz_classes.specs.WordRules.{c12, c18}
 use Rattle.pz_classes.specs.NameRules.{may_create}
 use Rattle.pz_classes.specs.Soundness.{IsSound, a_word}
 use Rattle.pz_classes.specs.Reached.{AncestorsAreReached}
-use Rattle.pz_classes.specs.Bodies.{place_in, scope_of, data_scope, process_scope, data_locals, process_locals}
+use Rattle.pz_classes_code.specs.Places.{place_in}
+use Rattle.pz_classes.specs.Bodies.{scope_of, data_scope, process_scope, data_locals, process_locals}
 use Rattle.pz_classes.specs.Starts.{start_call}
 use Rattle.pz_env_grown.specs.Growth.{Grown}
 use Rattle.pz_env_grown.proofs.Elements.{first_in, later_in}

@@ -18,7 +18,8 @@ use Rattle.pz_classes.specs.declared.method_id.Counts.TheVariants.{Process}
 use Rattle.pz_classes.specs.Numbers.{class}
 use Rattle.pz_classes.specs.Members.{ports, spelled}
 use Rattle.pz_classes.specs.Methods.{Signature, nearest}
-use Rattle.pz_classes.specs.Bodies.{BodyTree, process_body, place_in, scope_of}
+use Rattle.pz_classes_code.specs.Places.{place_in}
+use Rattle.pz_classes.specs.Bodies.{BodyTree, process_body, scope_of}
 use Rattle.pz_classes.specs.MethodBodies.{own_methods, first_body, own_body, process_method_body}
 use Rattle.pz_classes.specs.Starts.{own_start, start_call, own_call, init}
 use Rattle.pz_env_script.specs.declared.entry.Entry.{Entry}

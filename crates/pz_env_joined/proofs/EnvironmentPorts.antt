@@ -10,7 +10,7 @@ use Rattle.pz_syntax.specs.declared.names.Id.{Id}
 use Rattle.pz_syntax.specs.Classes.{DeclTree, process_class, ModelTree}
 use Rattle.pz_classes.specs.Ancestors.{parent_of, parent, followed, ancestors}
 use Rattle.pz_classes.specs.Members.{own_variables, own_ports, from_root, variables, ports, spelled}
-use Rattle.pz_classes.specs.Bodies.{place_from, place_in}
+use Rattle.pz_classes_code.specs.Places.{place_from, place_in}
 use Rattle.pz_env_script.specs.declared.entry.Entry.{Entry}
 use Rattle.pz_env_rules.specs.Environment.{Line, lines_from, lines_of}
 use Rattle.pz_env_rules.specs.Ends.{is_same_end, first_mentions}

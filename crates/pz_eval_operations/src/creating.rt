@@ -35,7 +35,7 @@ fn count_fields(classes: &Classes, class: ClassId) -> u32
     if class.0 as usize >= classes.count() {
         return 0;
     }
-    classes.fields(class).len() as u32
+    classes.fields(class).len()
 }
 
 /// A new object of a class, its fields nil.

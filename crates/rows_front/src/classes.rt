@@ -9,17 +9,20 @@ ghost use Rattle.pz_classes.specs.devices.Rows.{AreClasses};
 use crate::bodies::{show_body, show_step};
 use crate::reading::model_in;
 use pz_classes::{Classes, MethodId, Step};
-use pz_syntax::{Model, Name};
+use pz_classes_code::NameFront;
+use pz_syntax::Model;
 use pz_value::ClassId;
 use std::io;
 
 /// What a comment begins with that asks for a class or a method.
 const QUESTION: &str = "//? ";
 
-fn show_names(rt: &HostRuntime, what: &str, names: &[Name]) -> io::Result<()> {
-    for name in names {
-        let name = name.as_str();
-        println!(rt; "  {what} {name}")?;
+fn show_names(rt: &HostRuntime, what: &str, names: &NameFront) -> io::Result<()> {
+    for place in 0..names.len() {
+        if let Some(name) = names.name(place) {
+            let name = name.as_str();
+            println!(rt; "  {what} {name}")?;
+        }
     }
     Ok(())
 }

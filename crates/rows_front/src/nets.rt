@@ -69,20 +69,11 @@ fn show_values(rt: &HostRuntime, values: &[Value]) -> io::Result<()> {
 }
 
 /// The wire of a port.
-fn show_port(
-    rt: &HostRuntime,
-    net: &Net,
-    process: u32,
-    number: usize,
-    name: &Name,
-) -> io::Result<()>
+fn show_port(rt: &HostRuntime, net: &Net, process: u32, number: u32, name: &Name) -> io::Result<()>
     requires { HasProcess net.now process }
 {
-    let Ok(port) = u32::try_from(number) else {
-        return Ok(());
-    };
     let name = name.as_str();
-    match net.wire(process, port) {
+    match net.wire(process, number) {
         Some(wire) => print!(rt; ", {name} has wire {wire}"),
         None => print!(rt; ", {name} has none"),
     }
@@ -94,8 +85,11 @@ fn show_ports(rt: &HostRuntime, checked: &Checked, net: &Net, process: u32) -> i
     let classes = checked.classes();
     let class = net.class(process);
     if (class.0 as usize) < classes.count() {
-        for (number, name) in classes.ports(class).iter().enumerate() {
-            show_port(rt, net, process, number, name)?;
+        let ports = classes.ports(class);
+        for number in 0..ports.len() {
+            if let Some(name) = ports.name(number) {
+                show_port(rt, net, process, number, name)?;
+            }
         }
     }
     Ok(())

@@ -10,7 +10,7 @@ use Rattle.pz_syntax.specs.Classes.{DeclTree, ModelTree}
 use Rattle.pz_classes.specs.Numbers.{declaration}
 use Rattle.pz_classes.specs.Kinds.{is_cluster}
 use Rattle.pz_classes.specs.Members.{ports, spelled}
-use Rattle.pz_classes.specs.Bodies.{place_in}
+use Rattle.pz_classes_code.specs.Places.{place_in}
 use Rattle.pz_bind_levels.specs.declared.plan.LevelPart.{LevelPart}
 use Rattle.pz_bind_levels.specs.Layouts.{Layout}
 use Rattle.pz_bind.specs.Nest.{instances_in, channels_in, class_of}

@@ -1,6 +1,6 @@
 -- What the code keeps of fields, variables and ports.
-use Rattle.std.specs.Prelude.{◌≡◌, ◌<◌, ◌^◌, ℕ, suc, List, [], ◌++◌, length, Option, Some, slice_get}
-use Rattle.std.specs.Option.{option_and_then, option_map_or, unwrap_or}
+use Rattle.std.specs.Prelude.{◌≡◌, ◌<◌, ◌^◌, ℕ, suc, List, [], ◌++◌, length, Some, slice_get}
+use Rattle.std.specs.Option.{option_map_or}
 use Rattle.pz_syntax.specs.Classes.{DeclTree, ModelTree}
 use Rattle.pz_classes.specs.Numbers.{declaration}
 use Rattle.pz_classes.specs.Ancestors.{ancestors}
@@ -21,10 +21,6 @@ pub record HasMembers (m : ModelTree) (line : List ℕ) (members : Members) : Ty
 
 abbrev pub none_yet : Members
 none_yet = record { fields = []; variables = []; ports = [] }
-
--- what a class inherits that extends this one, where the table has what that one has
-abbrev pub inherited_in : List Members → Option ℕ → Members
-inherited_in table parent = unwrap_or (option_and_then (slice_get table) parent) none_yet
 
 -- what the class of this number has of its own comes last
 pub record AddsAt (m : ModelTree) (c : ℕ) (old new : Members) : Type 0 where

@@ -3,19 +3,19 @@ use Rattle.std.specs.Prelude.{◌≡◌, ℕ, List}
 use Rattle.pz_syntax.specs.declared.names.Id.{Id}
 use Rattle.pz_syntax.specs.Classes.{ModelTree}
 use Rattle.pz_classes_code.specs.declared.numbering.Numbering.{Numbering}
-use Rattle.pz_classes_code.specs.NumberIn.{number_in, number_below}
+use Rattle.pz_classes_code.specs.NumberIn.{number_in}
 use Rattle.pz_classes_code.specs.Resolution.{Scope}
 use Rattle.pz_classes.specs.Numbers.{class}
 use Rattle.pz_classes.specs.Members.{spelled}
-use Rattle.pz_classes.specs.Bodies.{place_in}
+use Rattle.pz_classes_code.specs.Places.{place_in}
 use Rattle.pz_classes.specs.declared.surroundings.Surroundings.{Surroundings}
 
 -- what names stand for in a method with these of its own
 abbrev pub scope_around : Surroundings → Numbering → List Id → Scope
 scope_around around classes locals = record {
   locals = place_in (spelled locals);
-  shared = number_below around.shared.bound around.shared.numbering.now;
-  ports = number_below around.ports.bound around.ports.numbering.now;
+  shared = place_in around.shared.now.names;
+  ports = place_in around.ports.now.names;
   classes = number_in classes;
 }
 

@@ -1,15 +1,15 @@
-use Rattle.std.proofs.Common.{◌≡◌, sym, ap, ◌+◌, ◌<◌, length, arith}
-use Rattle.pz_classes.specs.Bodies.{place_in}
+use Rattle.std.proofs.Common.{◌≡◌, ◌∙◌, sym, ap, ℕ, ◌+◌, ◌<◌, List, length, arith}
+use Rattle.pz_classes_code.specs.Places.{place_in}
 use Rattle.pz_classes.specs.CheckedView.{checked_model}
 use Rattle.pz_classes.specs.Members.{own_ports, spelled}
 use Rattle.pz_bind.proofs.Gets.{number_merely, none_declared, none_inherited}
 use Rattle.pz_bind.proofs.declared.numbered_port.Goals as goal
 
-pub port-requires : goal.port-requires
-port-requires c = c.count.ensures.belongs (record { 0 = c.args.class }) c.if-class-count.true
+pub ports-requires : goal.ports-requires
+ports-requires c = c.count.ensures.belongs (record { 0 = c.args.class }) c.if-class-count.true
 
 pub returns-then-class-count : goal.returns-then-class-count
-returns-then-class-count c = number_merely _ _ c.classes-classes.ensures.tabled (λ known. c.port.ensures (checked_model c.args.checked.now) known)
+returns-then-class-count c = number_merely _ _ c.classes-classes.ensures.tabled (λ known. c.place.ensures ∙ ap (λ (names : List (List ℕ)). place_in names c.args.name.now) (c.ports.ensures (checked_model c.args.checked.now) known))
 
 pub returns-else-class-count : goal.returns-else-class-count
 returns-else-class-count c =

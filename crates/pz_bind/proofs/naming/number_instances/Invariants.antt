@@ -1,7 +1,7 @@
 use Rattle.std.proofs.Common.{◌≡◌, ℕ, List, map, drop}
 use Rattle.std.specs.Option.{option_or}
 use Rattle.pz_classes_code.specs.NumberIn.{number_in}
-use Rattle.pz_classes.specs.Bodies.{place_from}
+use Rattle.pz_classes_code.specs.Places.{place_from}
 use Rattle.pz_bind.specs.devices.Layouts.{instance_number}
 use Rattle.pz_bind.proofs.naming.number_instances.Given as goal
 

@@ -5,8 +5,7 @@ use Rattle.pz_classes.specs.devices.Inherited.{HasMembers}
 use Rattle.pz_syntax.specs.ClassView.{model_view}
 use Rattle.pz_classes.specs.Bodies.{bodies}
 use Rattle.pz_classes.specs.BodyView.{body_view}
-use Rattle.pz_classes.proofs.Belongs.{entries_length}
-use Rattle.pz_classes.proofs.FewMarks.{members_fit, item_fits}
+use Rattle.pz_classes.proofs.FewMarks.{item_fits}
 use Rattle.pz_classes.proofs.Counting.{bodies_step, has_members, is_entry}
 use Rattle.pz_classes.proofs.bodies.bodies_of.Goals as goal
 
@@ -27,15 +26,6 @@ loop-decl-preserved c =
           c.loop-decl.invariant.listed;
     }
 
-pub push_bodies-requires-clause-members : goal.push_bodies-requires-clause-members
-push_bodies-requires-clause-members c =
-    let m = model_view c.args.model.now in
-    let within = is_entry m c.args.entries.now c.as_slice-decl-items.result.now c.loop-decl.decl-index c.loop-decl.number c.requires.listed
-    (rw c.as_slice-decl-items.ensures refl) c.loop-decl-test.true c.loop-decl.invariant.counted in
-    let count = entries_length m c.args.entries.now c.requires.listed in
-    let has = subst (λ (e : Entry). HasMembers m (ancestors m (c.loop-decl.number + 1)) e.members) c.index-entries-number.is (has_members m c.args.entries.now c.index-entries-number.result (c.loop-decl.number + 1) c.requires.listed within c.index-entries-number.is) in
-    members_fit m c.requires.few c.requires.acyclic (c.loop-decl.number + 1) (omega (arith, within, count)) _ has
-
-pub push_bodies-requires-clause-marks : goal.push_bodies-requires-clause-marks
-push_bodies-requires-clause-marks c =
+pub push_bodies-requires : goal.push_bodies-requires
+push_bodies-requires c =
     item_fits c.as_slice-decl-items.result.now (rw c.as_slice-decl-items.ensures c.requires.few) c.loop-decl.decl-index c.decl-item.result c.loop-decl-test.true c.decl-item.is

@@ -5,7 +5,7 @@ use Rattle.pz_syntax.specs.StatementView as tree
 use Rattle.pz_classes_code.specs.NumberIn.{number_in}
 use Rattle.pz_classes_code.specs.StepView.{sequence_view}
 use Rattle.pz_classes_code.specs.Resolution.{resolved_statements}
-use Rattle.pz_classes.specs.Bodies.{place_in}
+use Rattle.pz_classes_code.specs.Places.{place_in}
 use Rattle.pz_classes.proofs.Scopes.{held, process_body_is}
 use Rattle.pz_classes.proofs.bodies.process_body.Goals as goal
 

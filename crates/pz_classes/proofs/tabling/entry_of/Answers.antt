@@ -13,12 +13,6 @@ returns-clause-row c =
     row_is (model_view c.args.model.now) c.args.class c.parent_at-parent.result c.args.members c.in_ok-start.start c.in_ok-methods.methods
     (c.parent_at-parent.ensures ∙ c.requires.extending c.args.class) c.requires.inherited c.in_ok-start.ensures c.in_ok-methods.ensures fits
 
-pub start_at-requires-clause-few : goal.start_at-requires-clause-few
-start_at-requires-clause-few c =
-    let same = length-map c.args.model.now.decls decl_view in
-    let within = c.requires.within in
-    members_fit (model_view c.args.model.now) c.requires.few c.requires.acyclic c.args.class (omega (arith, same, within)) c.args.members c.requires.inherited
-
 pub invariant_of-result : goal.invariant_of-result
 invariant_of-result c =
     let same = length-map c.args.model.now.decls decl_view in

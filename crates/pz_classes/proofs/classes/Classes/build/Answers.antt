@@ -73,7 +73,3 @@ bodies_of-requires-clause-room c = room c.args.model.now.decls c.requires
 pub entries_of-requires-clause-acyclic : goal.entries_of-requires-clause-acyclic
 entries_of-requires-clause-acyclic c =
     nobody_goes_round (model_view c.args.model.now) (least_at_none (Violates (model_view c.args.model.now)) _ (sym c.least_violation.ensures ∙ c.in_default.is) (least_found (model_view c.args.model.now)))
-
-pub bodies_of-requires-clause-acyclic : goal.bodies_of-requires-clause-acyclic
-bodies_of-requires-clause-acyclic c =
-    nobody_goes_round (model_view c.args.model.now) (least_at_none (Violates (model_view c.args.model.now)) _ (sym c.least_violation.ensures ∙ c.in_default.is) (least_found (model_view c.args.model.now)))

@@ -1,0 +1,6 @@
+use Rattle.pz_syntax.specs.ClassView.{model_view}
+use Rattle.pz_classes.specs.devices.Fronts.{IsLineTo}
+use Rattle.pz_classes.proofs.line.follow.Given as goal
+
+abbrev pub invariant-loop-step : goal.invariant-loop-step
+invariant-loop-step l = IsLineTo (model_view l.model) l.first l.line.own l.line.ends.items l.last
