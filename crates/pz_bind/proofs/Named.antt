@@ -150,7 +150,7 @@ module _ (m : ModelTree) where
       same_ends i p (Inner x q) (Outer s) is other = absurd other
       same_ends i p (Inner x q) (Inner z s) (instance, port) (again, port_again) = by_instance (slice_get xs i) refl
         where
-          one_name : (names : List (List ℕ)) (n : ℕ) (a b : List ℕ) → Rattle.pz_classes.specs.Bodies.place_in names a ≡ Some n → Rattle.pz_classes.specs.Bodies.place_in names b ≡ Some n → a ≡ b
+          one_name : (names : List (List ℕ)) (n : ℕ) (a b : List ℕ) → Rattle.pz_classes_code.specs.Places.place_in names a ≡ Some n → Rattle.pz_classes_code.specs.Places.place_in names b ≡ Some n → a ≡ b
           one_name names n a b first second = let both_there : Some a ≡ Some b = sym (name_there names a n first) ∙ name_there names b n second in cc
 
           by_instance : (o : Option Instance) → slice_get xs i ≡ o → IsTrue (same_end (Inner x q) (Inner z s))

@@ -1,6 +1,6 @@
 // What the parameters of an instance are given.
 
-ghost use Rattle.std.specs.Prelude.{◌≡◌, List, ℕ, None, Some, [], map, IfOk, OnOk, if◌then◌else◌};
+ghost use Rattle.std.specs.Prelude.{◌≡◌, ◌<◌, List, ℕ, None, Some, [], length, map, get_or, IfOk, OnOk, if◌then◌else◌};
 ghost use Rattle.std.specs.Option.{option_copied, option_or, unwrap_or};
 ghost use Rattle.std.specs.Str.{bytes_eq};
 ghost use Rattle.pz_classes_code.specs.devices.Above.{names_above};
@@ -104,6 +104,18 @@ impl<'a> Bindings<'a> {
         Ok(inner)
     }
 
+    /// The value of the parameter or variable at this place. The only error is want of memory.
+    fn value_at(&self, alloc: Global, names: &NameFront, place: u32) -> Result<Value, AllocError>
+        requires { place < length names.now.names }
+        ensures { IfOk result (λ value. value ≡ value_in self.now
+            (get_or names.now.names place [])) }
+    {
+        match names.name(place) {
+            Some(name) => self.get(name.as_str().as_bytes()).value(alloc),
+            None => unreachable!(),
+        }
+    }
+
     /// The values of these parameters and variables. The only error is want of memory.
     pub(crate) fn values(
         &self,
@@ -111,17 +123,14 @@ impl<'a> Bindings<'a> {
         names: Option<&NameFront>,
     ) -> Result<Items<Value>, AllocError>
         ensures { IfOk result (λ values. values ≡ map (value_in self.now)
-            (names_above (option_copied names))) }
+            (names_above (option_copied names.entry))) }
     {
         let mut values = Items::new(alloc);
         let Some(names) = names else {
             return Ok(values);
         };
         for place in 0..names.len() {
-            if let Some(name) = names.name(place) {
-                let meaning = self.get(name.as_str().as_bytes());
-                values.push(meaning.value(alloc)?)?;
-            }
+            values.push(self.value_at(alloc, names, place)?)?;
         }
         Ok(values)
     }

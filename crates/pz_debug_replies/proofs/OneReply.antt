@@ -2,7 +2,6 @@
 use Rattle.std.proofs.Common.{◌≡◌, ◌≤◌, ◌<◌, ◌-◌, ◌⊎◌, inl, inr, refl, sym, ap, subst, ◌∙◌, ℕ, zero, suc, List, [], ◌∷◌, ◌++◌, length, take, Some, None, arith}
 use Rattle.std.specs.Prelude.{slice_get}
 use Rattle.pz_classes_code.specs.Places.{place_in}
-use Rattle.std.specs.Str.{bytes_eq}
 use Rattle.pz_syntax.specs.Classes.{ModelTree}
 use Rattle.pz_classes.specs.Members.{variables, spelled}
 use Rattle.pz_bind_levels.specs.Places.{Address}

@@ -1,24 +1,18 @@
 -- Processes and variables that were sought.
-use Rattle.std.proofs.Common.{◌≡◌, ◌<◌, ◌≤◌, ◌+◌, ◌⊎◌, inl, inr, ◌^◌, ℕ, zero, suc, Bool, true, false, List, [], length, get_or, Option, Some, None, refl, sym, ap, subst, ◌∙◌, arith}
+use Rattle.std.proofs.Common.{◌≡◌, ◌<◌, ◌≤◌, ◌+◌, ◌⊎◌, inl, inr, ℕ, Bool, true, false, List, [], length, get_or, Option, Some, None, sym, ap, subst, ◌∙◌, arith}
 use Rattle.std.proofs.Math.Logic.{∥∥₁_elim}
 use base.Stored.{Coded-set}
 use Rattle.std.specs.Coded.{coded_ℕ, coded_list, le_prop}
-use Rattle.std.specs.Prelude.{slice_get, IsTrue}
+use Rattle.std.specs.Prelude.{slice_get}
 use Rattle.pz_classes_code.specs.Places.{place_in}
 use Rattle.std.specs.Option.{option_map_or}
 use Rattle.std.specs.Str.{bytes_eq}
 use Rattle.std.proofs.lemmas.Slice.Eq.{bytes_eq-Decides}
 use Rattle.std.proofs.lemmas.List.{length-map}
 use Rattle.std.proofs.lemmas.Option.{slice_get-get_or, slice_get_within}
-use Rattle.pz_syntax.specs.Classes.{ModelTree, DeclTree}
-use Rattle.pz_syntax.specs.ModelText.{HasFewMarks}
-use Rattle.pz_syntax.specs.declared.names.Id.{Id}
+use Rattle.pz_syntax.specs.Classes.{ModelTree}
 use Rattle.pz_classes.specs.Kinds.{is_process}
-use Rattle.pz_classes.specs.Numbers.{declaration}
-use Rattle.pz_classes.specs.Soundness.{IsSound}
 use Rattle.pz_classes.specs.Members.{variables, spelled}
-use Rattle.pz_classes.proofs.FewMarks.{variables_few}
-use Rattle.pz_classes.proofs.Rounds.{nobody_goes_round}
 use Rattle.pz_bind_levels.specs.Places.{Address}
 use Rattle.pz_bind.specs.declared.net.Net.{Net}
 use Rattle.pz_bind.specs.Nest.{processes, class_at}
@@ -123,17 +117,6 @@ module _ (m n : ModelTree) (word name : List ℕ) (i : ℕ) (is : IsFirst m word
   is_none absent = no_variable m word i is name (sym found_as ∙ absent)
 
 -- 32 bits number the variables of a process
-
-declared_within : (ds : List DeclTree) (i : ℕ) (o : Option DeclTree) → slice_get ds i ≡ o → IsTrue (option_map_or is_process o false) → i < length ds
-declared_within ds i None at is = absurd (never is)
-  where
-    never : IsTrue false → ⊥
-    never e = cc
-declared_within ds i (Some d) at is = slice_get_within ds i d at
-
-class_within : (m : ModelTree) (c : ℕ) → IsTrue (option_map_or is_process (declaration m c) false) → c < suc (length m.decls)
-class_within m zero is = omega arith
-class_within m (suc i) is = let below = declared_within m.decls i (slice_get m.decls i) refl is in omega (arith, below)
 
 -- one more process without the path
 pub not_yet : (m : ModelTree) (word : List ℕ) (n : ℕ) → ((j : ℕ) → j < n → path_of m j ≡ word → ⊥) → (path_of m n ≡ word → ⊥) → (j : ℕ) → j < n + 1 → path_of m j ≡ word → ⊥

@@ -1,6 +1,6 @@
 // The ports of the instances of a system, and those of them that are in a channel.
 
-ghost use Rattle.std.specs.Prelude.{◌≡◌, ◌||◌, [], IfOk, OnOk};
+ghost use Rattle.std.specs.Prelude.{◌≡◌, ◌<◌, ◌||◌, [], length, get_or, IfOk, OnOk};
 ghost use Rattle.std.specs.List.{list_any};
 ghost use Rattle.std.specs.Option.{option_map, option_copied};
 ghost use Rattle.pz_syntax.specs.ClassView.{decl_view, model_view};
@@ -66,6 +66,17 @@ fn ports_of<'a>(model: &Model, classes: &'a Classes, instance: &Instance) -> &'a
     }
 }
 
+/// The name of the port at this place.
+fn port_at(ports: &NameFront, place: u32) -> &[u8]
+    requires { place < length ports.now.names }
+    ensures { result.now ≡ get_or ports.now.names place [] }
+{
+    match ports.name(place) {
+        Some(port) => port.as_str().as_bytes(),
+        None => unreachable!(),
+    }
+}
+
 /// Adds the ports of an instance of this name. The only error is want of memory.
 fn add_ports<'a>(
     ends: &mut EndSet<'a>,
@@ -76,9 +87,7 @@ fn add_ports<'a>(
         (has_end (ends_in ends.old) e || is_port_of instance.now ports.now.names e)) }
 {
     for place in 0..ports.len() {
-        if let Some(port) = ports.name(place) {
-            ends.add(instance, port.as_str().as_bytes())?;
-        }
+        ends.add(instance, port_at(ports, place))?;
     }
     Ok(())
 }
