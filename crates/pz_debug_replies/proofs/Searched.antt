@@ -116,8 +116,6 @@ module _ (m n : ModelTree) (word name : List ℕ) (i : ℕ) (is : IsFirst m word
   pub is_none : o ≡ None → (j v : ℕ) → IsVariable m word name j v → ⊥
   is_none absent = no_variable m word i is name (sym found_as ∙ absent)
 
--- 32 bits number the variables of a process
-
 -- one more process without the path
 pub not_yet : (m : ModelTree) (word : List ℕ) (n : ℕ) → ((j : ℕ) → j < n → path_of m j ≡ word → ⊥) → (path_of m n ≡ word → ⊥) → (j : ℕ) → j < n + 1 → path_of m j ≡ word → ⊥
 not_yet m word n before differ j below same = by (le_or_lt n j)
