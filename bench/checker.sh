@@ -10,6 +10,8 @@ process='process class P(x : Integer) ports p messages p!m init s()() methods s(
 { echo -n 'data class A0 variables f0 : Integer '; pieces 10000 'data class A% extends A@ variables f% : Integer methods m% : Integer f% '; echo 'system'; } >"$room/a chain of fields"
 { echo -n 'process class A0() init s()() methods s()() skip '; pieces 10000 'process class A%() extends A@ variables f% : Integer methods m%()() f% := 1 '; echo 'system'; } >"$room/a chain of variables"
 { echo -n 'process class A0() init s()() methods s()() skip '; pieces 10000 'process class A%() extends A@ ports p% messages p%!m methods m%()() p%!m '; echo 'system'; } >"$room/a chain of ports"
+{ echo -n 'data class A0 variables f0'; pieces 6000 ', f%'; echo -n ' : Integer '; pieces 6000 'data class A% extends A0 variables g% : Integer methods m% : Integer f% '; echo 'system'; } >"$room/a star of fields"
+{ echo -n 'process class A0() ports p0'; pieces 6000 ', p%'; echo -n ' init s()() methods s()() skip '; pieces 6000 'process class A%() extends A0 ports q% messages q%!m methods m%()() q%!m '; echo 'system'; } >"$room/a star of ports"
 { pieces 27000 'm%(x : Integer) : Integer x m%(1) ' | sed 's/^/data class A methods /'; echo 'system'; } >"$room/many methods"
 { echo -n 'process class A() init s()() methods s()() m1()() '; pieces 40000 'm%()() m1()() '; echo 'system'; } >"$room/many methods that call"
 { echo -n 'data class A variables x'; pieces 80000 ', x%'; echo -n ' : Integer methods m : Integer x'; pieces 40000 ' + x%'; echo ' system'; } >"$room/many variables"
@@ -30,7 +32,7 @@ body='process class A() ports p messages p!m, p?m variables x : Integer init s()
 { echo -n "$body"; pieces 200000 'p?m;'; echo 'skip system'; } >"$room/receives"
 { echo -n "$body"; pieces 200000 'p!m;'; echo 'skip system'; } >"$room/sends"
 { echo -n "$body"; pieces 150000 's()();'; echo 'skip system'; } >"$room/calls"
-for shape in 'many classes' 'a chain of data classes' 'a chain of process classes' 'a chain of fields' 'a chain of variables' 'a chain of ports' 'many methods' 'many methods that call' 'many variables' 'many instances' 'many ends of a channel' 'clusters in a chain' 'clusters in a ring' \
+for shape in 'many classes' 'a chain of data classes' 'a chain of process classes' 'a chain of fields' 'a chain of variables' 'a chain of ports' 'a star of fields' 'a star of ports' 'many methods' 'many methods that call' 'many variables' 'many instances' 'many ends of a channel' 'clusters in a chain' 'clusters in a ring' \
   'statements that assign' messages 'names alone' sums 'long sums' signs brackets guards receives sends calls; do
   measure_text "$shape" violations
 done
