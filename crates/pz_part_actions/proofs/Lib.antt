@@ -5,3 +5,6 @@ mod Performed
 mod Methods
 mod Calls
 mod Messages
+pub mod StatementPlaces
+pub mod Statements
+pub mod Higher

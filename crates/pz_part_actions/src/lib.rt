@@ -5,12 +5,14 @@ mod calling;
 mod evaluating;
 mod handing;
 mod opening;
+mod parts;
 mod performing;
 mod standing;
 mod taking;
 mod testing;
 
 pub use handing::hand;
+pub use parts::{done_by, pos_of};
 pub use performing::perform;
 pub use standing::at_home;
 pub use taking::take;

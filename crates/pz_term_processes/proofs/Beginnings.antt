@@ -28,8 +28,8 @@ use Rattle.pz_rules.specs.Laws.{OneStart}
 use Rattle.pz_rules.specs.devices.Start.{begins_by, start_at, start_of, StartIsComputed}
 use Rattle.pz_rules.proofs.Begun.{begins_with_call}
 use Rattle.pz_term_processes.specs.devices.Beginnings.{BeginsLow, IsHighAt}
-use Rattle.pz_term_processes.specs.devices.StatementPlaces.{statement_place}
-use Rattle.pz_term_processes.proofs.StatementPlaces.{step_place}
+use Rattle.pz_part_actions.specs.StatementPlaces.{statement_place}
+use Rattle.pz_part_actions.proofs.StatementPlaces.{step_place}
 
 -- a call without results, at its place
 record IsCallAt (first : Step) : Type 0 where

@@ -1,6 +1,5 @@
 mod Given
 mod First
 mod ProcessClasses
-pub mod StatementPlaces
 mod Beginnings
 mod Starts

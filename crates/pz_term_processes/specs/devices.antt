@@ -1,2 +1,1 @@
-pub mod StatementPlaces
 pub mod Beginnings

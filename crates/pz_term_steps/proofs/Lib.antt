@@ -1,6 +1,4 @@
 mod Lists
-mod Statements
-mod Higher
 mod Marked
 mod AtHome
 mod Finished

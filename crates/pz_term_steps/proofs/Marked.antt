@@ -26,10 +26,10 @@ use Rattle.pz_part_actions.specs.Becoming.{Becomes}
 use Rattle.pz_part_actions.specs.Becoming as becoming
 use Rattle.pz_part_actions.specs.Fitting.{FitsHere}
 use Rattle.pz_term_steps.specs.declared.begun.Begun.{Begun}
-use Rattle.pz_term_processes.specs.devices.StatementPlaces.{IsFrom}
+use Rattle.pz_part_actions.specs.StatementPlaces.{IsFrom}
 use Rattle.pz_term_steps.specs.devices.Deeds.{Ability, CanDo, Leaves, settled_home, begun_process}
-use Rattle.pz_term_steps.proofs.Statements.{one_place}
-use Rattle.pz_term_steps.proofs.Higher.{answer_settled}
+use Rattle.pz_part_actions.proofs.Statements.{one_place}
+use Rattle.pz_part_actions.proofs.Higher.{answer_settled}
 
 pub known_is : (m : ModelTree) (here : Standpoint) → Knows m here → AreKnown here.classes.now
 known_is m here known = ∥∥₁_map known (λ k. (m, k))

@@ -3,54 +3,26 @@
 // state.
 
 ghost use Rattle.std.specs.Prelude.{◌≡◌, IfOk};
-ghost use Rattle.pz_syntax.specs.declared.tokens.Pos.{Pos as StatementPos};
 ghost use Rattle.pz_classes.specs.CheckedView.{checked_model};
 ghost use Rattle.pz_copy.specs.Parcels.{ParcelView};
-ghost use Rattle.pz_state.specs.States.{StateView};
 ghost use Rattle.pz_rules.specs.InternalActions.{Performs};
 ghost use Rattle.pz_rules.specs.Messages.{Hands, Takes};
 ghost use Rattle.pz_rules.specs.View.{term_view};
 ghost use Rattle.pz_part_opening.specs.Homes.{home_view};
 ghost use Rattle.pz_part_queries.specs.Standpoints.{Knows};
-ghost use Rattle.pz_part_actions.specs.Becoming.{process_left, done_left};
 ghost use Rattle.pz_part_actions.specs.Fitting.{FitsHere};
 ghost use Rattle.pz_part_actions.specs.Homes.{seen_home};
-ghost use Rattle.pz_term_processes.specs.devices.StatementPlaces.{IsFrom};
 ghost use Rattle.pz_term_steps.specs.devices.Deeds.{CanAct, CanSend, CanReceive, CanDo, Leaves, begun_process, IsBegun};
 
 use crate::begun::{Begun, hold};
 use pz_copy::Parcel;
 use pz_offer::Trouble;
-use pz_part_actions::{at_home, hand, perform, take};
+use pz_part_actions::{at_home, done_by, hand, perform, pos_of, take};
 use pz_part_opening::Home;
 use pz_part_queries::{Standpoint, part_at};
-use pz_rules::Term;
 use pz_state::FrameId;
-use pz_syntax::Pos;
 use pz_term_processes::Process;
 use std::alloc::{AllocError, Global};
-
-/// The place of the statement that a part is. Takes no memory.
-fn pos_of(part: &Term) -> Pos
-    requires { (pos : StatementPos) × IsFrom pos (term_view part.now) }
-    ensures { IsFrom result (term_view part.now) }
-{
-    match part {
-        Term::Leaf(step) => step.pos,
-        Term::Wait { pos, .. } => *pos,
-        _ => unreachable!(),
-    }
-}
-
-/// A part of which nothing is left.
-fn done_by(left: Result<(), Trouble>) -> Result<Term, Trouble>
-    ensures { (s : StateView) → process_left s result ≡ done_left s left }
-{
-    match left {
-        Ok(()) => Ok(Term::Done),
-        Err(trouble) => Err(trouble),
-    }
-}
 
 /// A part acts by itself. Its process is of the class at home, and its term fits it.
 pub(crate) fn begin_internal(

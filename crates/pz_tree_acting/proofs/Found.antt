@@ -21,9 +21,9 @@ use Rattle.pz_tree_acting.specs.declared.how.How.{How}
 use Rattle.pz_tree_acting.specs.declared.how.How.TheVariants.{Internal, Send, Receive}
 use Rattle.pz_tree_acting.specs.Deeds.{able}
 use Rattle.pz_tree_acting.specs.Acting.{Rooted}
-use Rattle.pz_tree_acting.proofs.Statements.{acting_place, sending_place, receiving_place}
+use Rattle.pz_part_actions.proofs.Statements.{acting_place, sending_place, receiving_place}
 use Rattle.pz_tree_acting.specs.devices.Parts.{IsSimple, PartRule, HeadRule}
-use Rattle.pz_tree_acting.specs.devices.StatementPlaces.{IsFrom}
+use Rattle.pz_part_actions.specs.StatementPlaces.{IsFrom}
 
 pub simple_from : (pos : Pos) (t : Term) → IsFrom pos t → IsSimple t
 simple_from pos (term.leaf s) h = tt

@@ -1,7 +1,4 @@
-mod StatementPlaces
-mod Statements
 mod Merely
-mod Higher
 pub mod Calm
 mod Found
 mod Frames

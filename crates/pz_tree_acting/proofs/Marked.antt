@@ -26,11 +26,11 @@ use Rattle.pz_part_actions.specs.Becoming.{Becomes}
 use Rattle.pz_part_actions.specs.Becoming as becoming
 use Rattle.pz_part_actions.specs.Fitting.{FitsHere}
 use Rattle.pz_tree_acting.specs.declared.beginning.Begun.{Begun}
-use Rattle.pz_tree_acting.specs.devices.StatementPlaces.{IsFrom}
+use Rattle.pz_part_actions.specs.StatementPlaces.{IsFrom}
 use Rattle.pz_tree_acting.specs.Deeds.{Ability, CanDo, Leaves}
 use Rattle.pz_tree_acting.specs.devices.Begun.{IsAnswered, settled_home, begun_process, IsLeftBy}
-use Rattle.pz_tree_acting.proofs.Statements.{one_place}
-use Rattle.pz_tree_acting.proofs.Higher.{answer_settled}
+use Rattle.pz_part_actions.proofs.Statements.{one_place}
+use Rattle.pz_part_actions.proofs.Higher.{answer_settled}
 
 pub known_is : (m : ModelTree) (here : Standpoint) → Knows m here → AreKnown here.classes.now
 known_is m here known = ∥∥₁_map known (λ k. (m, k))

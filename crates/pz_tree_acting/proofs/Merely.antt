@@ -22,7 +22,7 @@ use Rattle.pz_tree_acting.specs.declared.beginning.Begun.{Begun}
 use Rattle.pz_tree_acting.specs.declared.how.How.{How}
 use Rattle.pz_tree_acting.specs.declared.how.How.TheVariants.{Internal, Send, Receive}
 use Rattle.pz_tree_acting.specs.devices.Begun.{ActsSo, Opens}
-use Rattle.pz_tree_acting.specs.devices.StatementPlaces.{statement_place, IsFrom}
+use Rattle.pz_part_actions.specs.StatementPlaces.{statement_place, IsFrom}
 
 none : ∥ ⊥ ∥₁ → ⊥
 none e = ∥∥₁_elim e (λ x y. absurd x) (λ x. x)

@@ -1,4 +1,3 @@
-pub mod StatementPlaces
 pub mod Begun
 pub mod Parts
 pub mod Closing

@@ -4,24 +4,23 @@
 ghost use Rattle.std.specs.Prelude.{◌≡◌, ◌≤◌, ◌+◌, ℕ, IfOk, OnOk, MatchResult};
 ghost use Rattle.pz_classes.specs.CheckedView.{checked_model};
 ghost use Rattle.pz_nodes.specs.Arena.{find};
-ghost use Rattle.pz_part_actions.specs.Becoming.{process_left, done_left};
+ghost use Rattle.pz_part_actions.specs.Becoming.{process_left};
 ghost use Rattle.pz_part_actions.specs.Fitting.{FitsHere};
 ghost use Rattle.pz_part_queries.specs.Standpoints.{Knows};
 ghost use Rattle.pz_rules.specs.Acting.{IsSend, IsReceive};
 ghost use Rattle.pz_rules.specs.View.{term_view};
 ghost use Rattle.pz_state.specs.Marks.{IsLatest, undone};
-ghost use Rattle.pz_state.specs.States.{StateView};
 ghost use Rattle.pz_rules.specs.Short.{IsShort};
 ghost use Rattle.pz_tree_regrowing.specs.Heights.{FewSteps};
 ghost use Rattle.pz_tree_acting.specs.Acting.{MayBeDone, TrialSteps};
 ghost use Rattle.pz_tree_acting.specs.devices.Begun.{ActsSo, IsHanded, IsTaken, DeedRule, IsBegun, Opens, HoldRule, BeginRule};
 
 use crate::how::How;
-use crate::parts::{part_under, pos_of};
+use crate::parts::part_under;
 use pz_copy::Parcel;
 use pz_nodes::{Key, Nodes, Steps};
 use pz_offer::Trouble;
-use pz_part_actions::{at_home, hand, perform, take};
+use pz_part_actions::{at_home, done_by, hand, perform, pos_of, take};
 use pz_part_opening::Home;
 use pz_part_queries::Standpoint;
 use pz_rules::Term;
@@ -37,16 +36,6 @@ use std::sync::ledger::Ledger;
 pub(crate) struct Begun {
     pub(crate) point: Savepoint,
     pub(crate) part: Term,
-}
-
-// A part of which nothing is left.
-fn done_by(left: Result<(), Trouble>) -> Result<Term, Trouble>
-    ensures { (s : StateView) → process_left s result ≡ done_left s left }
-{
-    match left {
-        Ok(()) => Ok(Term::Done),
-        Err(trouble) => Err(trouble),
-    }
 }
 
 // A send hands over its parcel. Effects stay, and after a trouble some may.

@@ -5,13 +5,10 @@ ghost use Rattle.pz_nodes.specs.Arena.{find};
 ghost use Rattle.pz_nodes_shapes.specs.Seen.{seen};
 ghost use Rattle.pz_rules.specs.View.{term_view};
 ghost use Rattle.pz_tree_nodes.specs.View.{head_view, what_view};
-ghost use Rattle.pz_syntax.specs.declared.tokens.Pos.{Pos as StatementPos};
-ghost use Rattle.pz_tree_acting.specs.devices.StatementPlaces.{IsFrom};
 ghost use Rattle.pz_tree_acting.specs.devices.Parts.{PartRule, HeadRule};
 
 use pz_nodes::{Nodes, Steps};
 use pz_rules::Term;
-use pz_syntax::Pos;
 use pz_tree_nodes::{Head, Node, Spot};
 use std::alloc::AllocError;
 use std::sync::ledger::Ledger;
@@ -47,17 +44,5 @@ pub(crate) fn part_under<L: Ledger>(
     match nodes.get(key, steps) {
         Some(node) => own_part(&node.what.head, spot.clock),
         None => Ok(Term::Done),
-    }
-}
-
-/// The place of the statement that a part is. Takes no memory.
-pub(crate) fn pos_of(part: &Term) -> Pos
-    requires { (pos : StatementPos) × IsFrom pos (term_view part.now) }
-    ensures { IsFrom result (term_view part.now) }
-{
-    match part {
-        Term::Leaf(step) => step.pos,
-        Term::Wait { pos, .. } => *pos,
-        _ => unreachable!(),
     }
 }

@@ -20,7 +20,7 @@ use Rattle.pz_tree_standing.specs.Right.{Right}
 use Rattle.pz_tree_standing.proofs.Passing.{clock_goes}
 use Rattle.pz_tree_nodes.specs.declared.kept.Kept.{Kept}
 use Rattle.pz_tree_nodes.specs.declared.node.What.{What}
-use Rattle.pz_tree_nodes.specs.Keeping.{HasFlags, kept_none, joined}
+use Rattle.pz_tree_nodes.specs.Keeping.{HasFlags, kept_none, joined, kept_later}
 use Rattle.pz_tree_nodes.specs.View.{Plant, Plants, shape_of, shapes_of, term_in}
 use Rattle.pz_tree_nodes.specs.Tended.{Tended}
 use Rattle.pz_tree_nodes.specs.Fresh.{Flagged}
@@ -30,7 +30,6 @@ use Rattle.pz_tree_refreshing.specs.Live.{live_below}
 use Rattle.pz_rules.specs.Short.{IsShort}
 use Rattle.pz_tree_standing.specs.Soon.{HasRoom, IsSoon}
 use Rattle.pz_tree_refreshing.specs.Refreshing.{Timely, RefreshRule}
-use Rattle.pz_tree_refreshing.specs.devices.Reached as reached
 use Rattle.pz_tree_refreshing.specs.devices.Reached.{added, reached_sum, Says}
 use Rattle.pz_tree_refreshing.specs.devices.Levels.{IsBare, IsLeft}
 use Rattle.pz_tree_standing.proofs.Soon.{clock_back, room_inside}
@@ -137,7 +136,7 @@ module _ (a : Context) (d : ℕ) (m n : Map What) (f : ℕ) (h : Head) (c i : �
         let right : Right (later a d) f after (shape_of r.plant) = subst (λ z. Right (later a d) f z (shape_of r.plant)) (sym goes) r.fresh.right in
         let flagged : Flagged (later a d) f after r.plant = subst (λ z. Flagged (later a d) f z r.plant) (sym goes) r.fresh.flagged in
         let soon = subst (λ z. IsSoon z x.kept.summary.due) (sym goes) r.soon in
-        let is : k ≡ reached.later (behind_inside h i) x.kept = x.brought (may_shift (c + d) after (behind_inside h i) x.kept back room_now soon) in
+        let is : k ≡ kept_later (behind_inside h i) x.kept = x.brought (may_shift (c + d) after (behind_inside h i) x.kept back room_now soon) in
         record {
           plant = r.plant;
           under = r.under;
@@ -155,7 +154,7 @@ module _ (a : Context) (d : ℕ) (m n : Map What) (f : ℕ) (h : Head) (c i : �
               (ap (λ (z : Kept). z.summary) r.kept ∙ right_top (later a d) f after r.plant right)
               (subst (HasFlags (later a d) f (term_in after r.plant)) (sym r.kept) (flags_top (later a d) f after r.plant flagged))
               soon is;
-          asks_so = ap (λ (z : Kept). z.asks) (is ∙ ap (reached.later (behind_inside h i)) r.kept) ∙ asks_top f after r.plant tended
+          asks_so = ap (λ (z : Kept). z.asks) (is ∙ ap (kept_later (behind_inside h i)) r.kept) ∙ asks_top f after r.plant tended
               ∙ sym (or_none (asks (term_in after r.plant))) ∙ sym (ap (λ z. added ◌||◌ z (asks (term_in after r.plant)) false) e);
           ticks =
               let cost : visited (reaches h i) (reaches h i) (woken_below after p r.plant) (live_below r.plant) ≡ suc (woken_below (before + d) p r.plant) =
@@ -300,13 +299,13 @@ module _ (b : Context) (m : Map What) (f : ℕ) (h : Head) (now i fuel : ℕ) (k
   kid_left key is r e = subst (λ z. KidRule b m m f h now i fuel z k old old) (sym is) ((λ q. left_so e), (λ q. not_both (reaches h i) q r))
 
   pub kid_brought : (n : Map What) (key home clock by : ℕ) (kept : Kept) (new : ℕ) → kid ≡ Some key → reaches h i ≡ true → home ≡ f → clock ≡ inner_clock h i now → by ≡ behind_inside h i
-      → AtRule b m n home clock fuel key kept old new → (MayShift by kept.summary → k ≡ reached.later by kept) → KidRule b m n f h now i fuel kid k old new
+      → AtRule b m n home clock fuel key kept old new → (MayShift by kept.summary → k ≡ kept_later by kept) → KidRule b m n f h now i fuel kid k old new
   kid_brought n key home clock by kept new is e homes clocks bys rule brought = subst (λ z. KidRule b m n f h now i fuel z k old new) (sym is) (
     (λ q. not_both (reaches h i) e q),
     (λ q. record {
       kept = kept;
       rule = subst (λ z. AtRule b m n z (inner_clock h i now) fuel key kept old new) homes (subst (λ z. AtRule b m n home z fuel key kept old new) clocks rule);
-      brought = subst (λ z. MayShift z kept.summary → k ≡ reached.later z kept) bys brought;
+      brought = subst (λ z. MayShift z kept.summary → k ≡ kept_later z kept) bys brought;
     }),
   )
 
@@ -316,12 +315,12 @@ pub kept_there : (x : Option (Node What)) (was : Node What) (k : Kept) → IfSom
 kept_there x was k h e = subst (λ z. IfSome z (λ w. k ≡ w.what.kept)) e h
 
 pub has_returned : (b : Context) (m n : Map What) (f : ℕ) (g : Head) (now key home clock by : ℕ) (kept k : Kept) (kid : Option ℕ) (old mid new : ℕ) → Some key ≡ kid → home ≡ f → clock ≡ inner_clock g 0 now → by ≡ behind_inside g 0
-    → RefreshRule b m n key home clock old mid → ((was : Node What) → n key ≡ Some was → kept ≡ was.what.kept) → (MayShift by kept.summary → k ≡ reached.later by kept) → new ≡ mid + 1 → ReturnRule b m n f g now kid k old new
+    → RefreshRule b m n key home clock old mid → ((was : Node What) → n key ≡ Some was → kept ≡ was.what.kept) → (MayShift by kept.summary → k ≡ kept_later by kept) → new ≡ mid + 1 → ReturnRule b m n f g now kid k old new
 has_returned b m n f g now key home clock by kept k kid old mid new is homes clocks bys rule there brought tick = subst (λ z. ReturnRule b m n f g now z k old new) is (record {
   mid = mid;
   rule = subst (λ z. RefreshRule b m n key z (inner_clock g 0 now) old mid) homes (subst (λ z. RefreshRule b m n key home z old mid) clocks rule);
   brought = λ was e may.
       let same : kept ≡ was.what.kept = there was e in
-      brought (subst (λ z. MayShift z kept.summary) (sym bys) (subst (λ (z : Kept). MayShift (behind_inside g 0) z.summary) (sym same) may)) ∙ λ i. reached.later (bys i) (same i);
+      brought (subst (λ z. MayShift z kept.summary) (sym bys) (subst (λ (z : Kept). MayShift (behind_inside g 0) z.summary) (sym same) may)) ∙ λ i. kept_later (bys i) (same i);
   ticks = tick;
 })

@@ -16,7 +16,7 @@ use Rattle.pz_tree_standing.specs.Right.{Right, RightAll}
 use Rattle.pz_tree_standing.specs.Whole.{HasParts}
 use Rattle.pz_tree_nodes.specs.declared.kept.Kept.{Kept}
 use Rattle.pz_tree_nodes.specs.declared.node.What.{What}
-use Rattle.pz_tree_nodes.specs.Keeping.{kept_none}
+use Rattle.pz_tree_nodes.specs.Keeping.{kept_none, kept_later}
 use Rattle.pz_tree_nodes.specs.View.{Plant, Plants, shapes_of, term_in}
 use Rattle.pz_tree_nodes.specs.Tended.{Tended}
 use Rattle.pz_tree_nodes.specs.Fresh.{Flagged, AllFlagged}
@@ -25,7 +25,6 @@ use Rattle.pz_tree_refreshing.specs.Live.{live_below}
 use Rattle.pz_rules.specs.Short.{AreShort}
 use Rattle.pz_tree_standing.specs.Soon.{HasRoom}
 use Rattle.pz_tree_refreshing.specs.Refreshing.{Timely, AllTimely, IsRefreshed}
-use Rattle.pz_tree_refreshing.specs.devices.Reached as reached
 use Rattle.pz_tree_refreshing.specs.devices.Reached.{added, reached_sum, Says}
 use Rattle.pz_tree_refreshing.specs.devices.Levels.{IsLeft, KidsTended}
 use Rattle.pz_tree_standing.proofs.Soon.{clock_back, room_inside}
@@ -308,7 +307,7 @@ module _ (a : Context) (d : ℕ) (m n0 : Map What) (f : ℕ) (h g : Head) (c : �
       back : inner + behind_inside g 0 ≡ c + d
       back = clock_back g (c + d) 0 fits first
 
-      k_is : k ≡ reached.later (behind_inside g 0) (payload is.plant).kept
+      k_is : k ≡ kept_later (behind_inside g 0) (payload is.plant).kept
       k_is = r.brought (record { what = payload is.plant; kids = roots (kids is.plant) })
           (ap n (sym is.under) ∙ node_at n is.plant is.made.stands)
           (may_shift (c + d) inner (behind_inside g 0) (payload is.plant).kept back room is.soon)

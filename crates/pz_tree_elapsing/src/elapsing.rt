@@ -4,12 +4,10 @@ ghost use Rattle.std.specs.Prelude.{◌≡◌, ◌+◌, ◌*◌, ℕ, true, Some
 ghost use Rattle.pz_syntax.specs.Classes.{ModelTree};
 ghost use Rattle.pz_eval.specs.Known.{AreKnown};
 ghost use Rattle.pz_nodes.specs.Arena.{find, Updates};
-ghost use Rattle.pz_offer.specs.Summaries.{MayShift};
 ghost use Rattle.pz_part_queries.specs.Standpoints.{Knows, seen_from};
 ghost use Rattle.pz_rules.specs.Settings.{Context};
 ghost use Rattle.pz_tree_standing.specs.Heads.{inner_frame};
 ghost use Rattle.pz_tree_nodes.specs.View.{head_view};
-ghost use Rattle.pz_tree_refreshing.specs.devices.Reached as reached;
 ghost use Rattle.pz_tree_elapsing.specs.Elapsing.{ElapseRule};
 ghost use Rattle.pz_tree_elapsing.specs.devices.Levels as levels;
 ghost use Rattle.pz_tree_elapsing.specs.devices.Levels.{NodeRule, AtRule, KidRule, KidsRule, ReturnRule, TurnRule};
@@ -17,50 +15,15 @@ ghost use Rattle.pz_tree_elapsing.specs.devices.Levels.{NodeRule, AtRule, KidRul
 use crate::turning::{Turn, turn_of};
 use crate::waking::{asks, wake, wakes};
 use pz_nodes::{Key, Nodes, Steps};
-use pz_nodes_shapes::Kids;
-use pz_offer::Summary;
 use pz_part_queries::Standpoint;
 use pz_state::State;
-use pz_tree_nodes::{Head, Kept, Node, What};
-use pz_tree_refreshing::{Spot, behind_inside, clock_inside, frame_inside, reaches, refresh};
+use pz_tree_nodes::{
+    Head, Kept, Node, What, behind_inside, clock_inside, frame_inside, fuel_for, hollow, later,
+    put_back, reaches,
+};
+use pz_tree_refreshing::{Spot, refresh};
 use std::alloc::{AllocError, Global};
 use std::sync::ledger::Ledger;
-
-/// What lies under the key of a node that is in hand.
-fn hollow() -> Node {
-    Node {
-        what: What {
-            head: Head::Par,
-            kept: Kept::none(),
-        },
-        kids: Kids::none(),
-    }
-}
-
-/// Puts a node under the key of one that is in hand.
-fn put_back<L: Ledger>(nodes: &mut Nodes<Node>, key: Key, node: Node, steps: &mut Steps<L>)
-    ensures put { (find nodes.old key ≡ None → ⊥) → Updates nodes.old nodes.new key (Some node) }
-    ensures ticks { steps.new ≡ steps.old + 1 }
-{
-    let _ = nodes.set(key, node, steps);
-}
-
-/// The same by a clock that is ahead by so many clock units.
-fn later(kept: &Kept, by: u128) -> Kept
-    ensures { MayShift by kept.now.summary → result ≡ reached.later by kept.now }
-{
-    let due = match kept.summary.due {
-        Some(due) => Some(due.saturating_add(by)),
-        None => None,
-    };
-    Kept {
-        summary: Summary {
-            due,
-            ..kept.summary
-        },
-        ..*kept
-    }
-}
 
 /// What a node keeps, from what it kept, whether something is asked at it or below it, and what it adds to
 /// what its active children keep.
@@ -72,13 +35,6 @@ fn written(before: &Kept, asks: bool, now: &Kept) -> Kept
         height: before.height,
         ..*now
     }
-}
-
-/// As many nodes as may stand one below the other, where the topmost keeps this.
-fn fuel_for(kept: &Kept) -> u64
-    ensures { result ≡ 2 * kept.now.height }
-{
-    2 * u64::from(kept.height)
 }
 
 // ------------------------------------------------------------ what has become active

@@ -1,6 +1,6 @@
 -- What a node keeps of its term.
 use Rattle.std.specs.Prelude.{◌≡◌, ℕ, suc, max, Bool, true, false, ◌||◌}
-use Rattle.pz_offer.specs.Summaries.{nothing, join}
+use Rattle.pz_offer.specs.Summaries.{nothing, join, shifted}
 use Rattle.pz_rules.specs.Terms.{Term, Terms, no_terms, and, height, greatest_height}
 use Rattle.pz_rules.specs.Settings.{Context}
 use Rattle.pz_tree_standing.specs.Summaries.{summary_of, summaries_of}
@@ -59,3 +59,7 @@ joined k l = record {
 -- of a node over parts
 abbrev pub raised : Kept → Kept
 raised k = record k { height = suc k.height }
+
+-- of the same parts, by a clock that is ahead by so much
+abbrev pub kept_later : ℕ → Kept → Kept
+kept_later by k = record k { summary = shifted by k.summary }

@@ -1,8 +1,7 @@
-// What a node says of its own level: which of its children are active, and what it does itself.
+// What a node does itself.
 
 ghost use Rattle.std.specs.Prelude.{◌≡◌};
 ghost use Rattle.pz_classes_code.specs.StepView.{view};
-ghost use Rattle.pz_tree_standing.specs.Reached as standing;
 ghost use Rattle.pz_tree_nodes.specs.View.{head_view};
 ghost use Rattle.pz_tree_nodes.specs.devices.Own.{statement_may_do, may_do};
 
@@ -18,38 +17,7 @@ pub(crate) struct Doing {
     pub(crate) pos: Pos,
 }
 
-fn is_first(number: usize) -> bool
-    ensures { result ≡ standing.is_first number }
-{
-    number == 0
-}
-
-fn is_second(number: usize) -> bool
-    ensures { result ≡ standing.is_second number }
-{
-    number == 1
-}
-
-/// Whether this child is active, where the node is.
-pub(crate) fn reaches(head: &Head, number: usize) -> bool
-    ensures { result ≡ standing.reaches (head_view head.now) number }
-{
-    match head {
-        Head::Leaf(_) => false,
-        Head::Wait { .. } => false,
-        Head::Seq(_) => is_first(number),
-        Head::Par => true,
-        Head::Sel => true,
-        Head::Guard { shift, .. } => is_first(number) && shift.since().is_none(),
-        Head::Frame { .. } => is_first(number),
-        Head::Abort => is_first(number) || is_second(number),
-        Head::Idle(_, _) => is_first(number) || is_second(number),
-        Head::Handling(_, _) => is_second(number),
-        Head::Shifted(_) => is_first(number),
-    }
-}
-
-/// What a statement does, if it does anything by itself.
+// What a statement does, if it does anything by itself.
 fn action_of(step: &Step) -> Option<Doing>
     ensures { result ≡ statement_may_do (view step.now) }
 {

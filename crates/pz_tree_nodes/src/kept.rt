@@ -1,7 +1,7 @@
-ghost use Rattle.std.specs.Prelude.{◌≡◌, IsTrue, IfOk};
-ghost use Rattle.pz_offer.specs.Summaries.{AreJoinable};
+ghost use Rattle.std.specs.Prelude.{◌≡◌, ◌*◌, IsTrue, IfOk};
+ghost use Rattle.pz_offer.specs.Summaries.{AreJoinable, MayShift};
 ghost use Rattle.pz_tree_nodes.specs.Keeping as keeping;
-ghost use Rattle.pz_tree_nodes.specs.Keeping.{kept_none, kept_done, kept_asked, joined};
+ghost use Rattle.pz_tree_nodes.specs.Keeping.{kept_none, kept_done, kept_asked, joined, kept_later};
 
 use pz_offer::Summary;
 use std::alloc::AllocError;
@@ -90,4 +90,28 @@ fn may_join(left: &Summary, right: &Summary) -> bool
     left.internal.checked_add(right.internal).is_some()
         && left.sends.checked_add(right.sends).is_some()
         && left.receives.checked_add(right.receives).is_some()
+}
+
+/// The same by a clock that is ahead by so many clock units.
+pub fn later(kept: &Kept, by: u128) -> Kept
+    ensures { MayShift by kept.now.summary → result ≡ kept_later by kept.now }
+{
+    let due = match kept.summary.due {
+        Some(due) => Some(due.saturating_add(by)),
+        None => None,
+    };
+    Kept {
+        summary: Summary {
+            due,
+            ..kept.summary
+        },
+        ..*kept
+    }
+}
+
+/// As many nodes as may stand one below the other, where the topmost keeps this.
+pub fn fuel_for(kept: &Kept) -> u64
+    ensures { result ≡ 2 * kept.now.height }
+{
+    2 * u64::from(kept.height)
 }

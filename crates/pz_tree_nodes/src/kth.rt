@@ -8,7 +8,8 @@ ghost use Rattle.pz_tree_nodes.specs.devices.Counts.{internal, count_under, IsSo
 ghost use Rattle.pz_tree_nodes.specs.devices.Onward.{NextRule};
 
 use crate::found::{ActingPart, Part};
-use crate::heads::{Doing, own_action, reaches};
+use crate::heads::{Doing, own_action};
+use crate::inside::reaches;
 use crate::parts::{Spot, child_in, past_shift};
 use crate::{Head, Node};
 use pz_nodes::{Key, Nodes, Steps};

@@ -6,7 +6,7 @@ ghost use Rattle.pz_tree_nodes.specs.Listing.{ListRule};
 ghost use Rattle.pz_tree_nodes.specs.devices.Adding.{count_in, AddRule, BelowRule};
 
 use crate::found::{Offering, Part};
-use crate::heads::reaches;
+use crate::inside::reaches;
 use crate::parts::{Spot, child_in, past_shift};
 use crate::{Head, Node};
 use pz_nodes::{Key, Nodes, Steps};

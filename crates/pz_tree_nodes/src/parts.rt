@@ -1,16 +1,15 @@
 // From the topmost node of a term to that of one of its parts.
 
 ghost use Rattle.std.specs.Prelude.{◌≡◌, ◌≤◌, ◌+◌, ◌*◌, length, slice_index_or, None};
-ghost use Rattle.pz_clock.specs.Shifts.{local};
 ghost use Rattle.pz_nodes.specs.Arena.{find};
 ghost use Rattle.pz_nodes_shapes.specs.Seen.{seen};
-ghost use Rattle.pz_tree_standing.specs.Heads.{first_only, inner_clock, inner_frame};
+ghost use Rattle.pz_tree_standing.specs.Heads.{inner_clock, inner_frame};
 ghost use Rattle.pz_tree_nodes.specs.View.{head_view, what_view};
 ghost use Rattle.pz_tree_nodes.specs.Seeking.{SeekRule};
 ghost use Rattle.pz_tree_nodes.specs.devices.Levels.{PastRule, PastRightRule, ChildRule};
 
+use crate::inside::{clock_inside, frame_inside, local_clock};
 use crate::{Head, Node};
-use pz_clock::Shift;
 use pz_nodes::{Key, Nodes, Steps};
 use pz_state::FrameId;
 use std::sync::ledger::Ledger;
@@ -24,50 +23,6 @@ pub struct Spot {
     pub frame: FrameId,
     /// What its clock shows, in clock units.
     pub clock: u128,
-}
-
-// What a clock shows, of any shift: no condition has to be known of the nodes.
-fn local_clock(shift: &Shift, outer: u128) -> u128
-    ensures { result ≡ local shift.now outer }
-{
-    match shift.since() {
-        None => outer.saturating_sub(shift.behind()),
-        Some(since) => since.saturating_sub(shift.behind()),
-    }
-}
-
-// Of the first part alone.
-fn first_clock(shift: &Shift, number: usize, clock: u128) -> u128
-    ensures { result ≡ first_only shift.now number clock }
-{
-    if number == 0 {
-        local_clock(shift, clock)
-    } else {
-        clock
-    }
-}
-
-// What the clock of this child shows.
-fn clock_inside(head: &Head, number: usize, clock: u128) -> u128
-    ensures { result ≡ inner_clock (head_view head.now) number clock }
-{
-    match head {
-        Head::Guard { shift, .. } => local_clock(shift, clock),
-        Head::Shifted(shift) => local_clock(shift, clock),
-        Head::Idle(_, shift) => first_clock(shift, number, clock),
-        Head::Handling(_, shift) => first_clock(shift, number, clock),
-        _ => clock,
-    }
-}
-
-// The frame in which the children stand.
-fn frame_inside(head: &Head, frame: FrameId) -> FrameId
-    ensures { result.0 ≡ inner_frame (head_view head.now) frame.0 }
-{
-    match head {
-        Head::Frame { frame: own, .. } => *own,
-        _ => frame,
-    }
 }
 
 // The key of a child of a node; None where it is gone.

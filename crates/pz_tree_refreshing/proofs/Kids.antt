@@ -16,7 +16,7 @@ use Rattle.pz_tree_standing.specs.Reached.{reaches, behind_inside}
 use Rattle.pz_tree_standing.specs.Right.{Right}
 use Rattle.pz_tree_nodes.specs.declared.kept.Kept.{Kept}
 use Rattle.pz_tree_nodes.specs.declared.node.What.{What}
-use Rattle.pz_tree_nodes.specs.Keeping.{HasFlags, kept_none, joined}
+use Rattle.pz_tree_nodes.specs.Keeping.{HasFlags, kept_none, joined, kept_later}
 use Rattle.pz_tree_nodes.specs.View.{Plant, Plants, shape_of, shapes_of, term_in}
 use Rattle.pz_tree_nodes.specs.Tended.{Tended}
 use Rattle.pz_tree_nodes.specs.Fresh.{Flagged}
@@ -26,7 +26,7 @@ use Rattle.pz_tree_refreshing.specs.Live.{live_below}
 use Rattle.pz_rules.specs.Short.{IsShort}
 use Rattle.pz_tree_standing.specs.Soon.{HasRoom, IsSoon}
 use Rattle.pz_tree_refreshing.specs.Refreshing.{Timely}
-use Rattle.pz_tree_refreshing.specs.devices.Reached.{added, reached_sum, Says, later}
+use Rattle.pz_tree_refreshing.specs.devices.Reached.{added, reached_sum, Says}
 use Rattle.pz_tree_refreshing.specs.devices.Levels.{IsBare, NodeRefreshed, KidsRefreshed, IsLeft, IsBrought, AtRule, KidRule, KidsRule, RefreshesOn}
 use Rattle.pz_tree_standing.proofs.Soon.{least_soon, clock_back, room_inside, here_later}
 use Rattle.pz_tree_refreshing.proofs.Short.{may_shift, soon_here}
@@ -69,7 +69,7 @@ says_unreached a c f h i t k e n = subst (Says a c f h i (and t no_terms)) (sym 
 
 -- an active one that keeps what is right
 pub says_reached : (a : Context) (c f : ℕ) (h : Head) (i inner by : ℕ) (t : Term) (k kept : Kept) → reaches h i ≡ true → inner + by ≡ c
-    → kept.summary ≡ summary_of a inner f t → HasFlags a f t kept → IsSoon inner kept.summary.due → k ≡ later by kept → Says a c f h i (and t no_terms) k
+    → kept.summary ≡ summary_of a inner f t → HasFlags a f t kept → IsSoon inner kept.summary.due → k ≡ kept_later by kept → Says a c f h i (and t no_terms) k
 says_reached a c f h i inner by t k kept e back right flags soon is = subst (Says a c f h i (and t no_terms)) (sym is) (record {
   summary = ap (shifted by) right ∙ here_later a c inner by f t back ∙ sym (join_right (summary_of a c f t)) ∙ sym (ap (λ b. added join b (summary_of a c f t) nothing) e);
   starts = flags.starts ∙ sym (or_none (starts a f t)) ∙ sym (ap (λ b. added ◌||◌ b (starts a f t) false) e);
@@ -280,12 +280,12 @@ module _ (a : Context) (m : Map What) (f : ℕ) (h : Head) (c i fuel : ℕ) (kid
   kid_left key is r e = subst (λ z. KidRule a m m f h c i fuel z k old old) (sym is) ((λ q. left_so e), (λ q. not_both (reaches h i) q r))
 
   pub kid_brought : (n : Map What) (key frame clock by : ℕ) (kept : Kept) (new : ℕ) → kid ≡ Some key → reaches h i ≡ true → frame ≡ f → clock ≡ inner_clock h i c → by ≡ behind_inside h i
-      → AtRule a m n frame clock fuel key kept old new → (MayShift by kept.summary → k ≡ later by kept) → KidRule a m n f h c i fuel kid k old new
+      → AtRule a m n frame clock fuel key kept old new → (MayShift by kept.summary → k ≡ kept_later by kept) → KidRule a m n f h c i fuel kid k old new
   kid_brought n key frame clock by kept new is r frames clocks bys rule brought = subst (λ z. KidRule a m n f h c i fuel z k old new) (sym is) (
     (λ q. not_both (reaches h i) r q),
     (λ q. record {
       kept = kept;
       rule = subst (λ z. AtRule a m n z (inner_clock h i c) fuel key kept old new) frames (subst (λ z. AtRule a m n frame z fuel key kept old new) clocks rule);
-      brought = subst (λ z. MayShift z kept.summary → k ≡ later z kept) bys brought;
+      brought = subst (λ z. MayShift z kept.summary → k ≡ kept_later z kept) bys brought;
     }),
   )

@@ -2,11 +2,9 @@
 #![tactic(auto)]
 
 mod asking;
-mod inside;
 mod refreshing;
 mod spot;
 
 pub use asking::ask;
-pub use inside::{behind_inside, clock_inside, frame_inside, reaches};
 pub use refreshing::refresh;
 pub use spot::Spot;

@@ -2,16 +2,13 @@
 
 ghost use Rattle.std.specs.Prelude.{◌≡◌, ◌≤◌, ◌+◌, None, MatchOption, IfOk, OnOk, slice_index_or};
 ghost use Rattle.pz_nodes.specs.Arena.{find};
-ghost use Rattle.pz_tree_standing.specs.Heads.{inner_frame};
-ghost use Rattle.pz_tree_nodes.specs.View.{head_view};
 ghost use Rattle.pz_tree_regrowing.specs.devices.Keeping.{kept_in, kept_in_all};
 ghost use Rattle.pz_tree_regrowing.specs.devices.Levels.{IsWritten, IsFree, IsTaken, IsChildOf, there, all_there};
 
 use crate::clocks::clock_below;
 use pz_nodes::{Key, Nodes, Steps};
 use pz_nodes_shapes::Kids;
-use pz_state::FrameId;
-use pz_tree_nodes::{Head, Kept, Node, Spot, What};
+use pz_tree_nodes::{Head, Kept, Node, Spot, What, frame_inside, hollow};
 use std::alloc::AllocError;
 use std::sync::ledger::Ledger;
 
@@ -27,17 +24,6 @@ pub(crate) fn kid_in(kids: &Kids, number: usize) -> Option<Key>
     ensures { result ≡ slice_index_or kids.now number None }
 {
     kids.as_slice().get(number).copied().flatten()
-}
-
-// What lies under the key of a node in hand.
-fn hollow() -> Node {
-    Node {
-        what: What {
-            head: Head::Par,
-            kept: Kept::done(),
-        },
-        kids: Kids::none(),
-    }
 }
 
 /// Takes the node under the key in hand, and this stands in the place of its child of this number. None
@@ -128,16 +114,6 @@ pub(crate) fn kept_of_all<L: Ledger>(
     Ok(all)
 }
 
-// The frame in which the children stand.
-fn frame_below(head: &Head, frame: FrameId) -> FrameId
-    ensures { result.0 ≡ inner_frame (head_view head.now) frame.0 }
-{
-    match head {
-        Head::Frame { frame: own, .. } => *own,
-        _ => frame,
-    }
-}
-
 /// Where the child of this number stands, of the part there. Its clock shows no more than that around it.
 pub(crate) fn child_of<L: Ledger>(
     nodes: &Nodes<Node>,
@@ -158,7 +134,7 @@ pub(crate) fn child_of<L: Ledger>(
     };
     Spot {
         key: kid_in(&node.kids, number),
-        frame: frame_below(&node.what.head, spot.frame),
+        frame: frame_inside(&node.what.head, spot.frame),
         clock: clock_below(&node.what.head, number, spot.clock),
     }
 }

@@ -15,14 +15,13 @@ use Rattle.pz_tree_standing.specs.Reached.{reaches, behind_inside}
 use Rattle.pz_tree_standing.specs.Right.{RightAll}
 use Rattle.pz_tree_nodes.specs.declared.kept.Kept.{Kept}
 use Rattle.pz_tree_nodes.specs.declared.node.What.{What}
-use Rattle.pz_tree_nodes.specs.Keeping.{joined}
+use Rattle.pz_tree_nodes.specs.Keeping.{joined, kept_later}
 use Rattle.pz_tree_nodes.specs.View.{Plant, Plants, shapes_of, term_in}
 use Rattle.pz_tree_nodes.specs.Tended.{Tended}
 use Rattle.pz_tree_nodes.specs.Fresh.{Fresh, AllFlagged}
 use Rattle.pz_rules.specs.Short.{IsShort, AreShort}
 use Rattle.pz_tree_standing.specs.Soon.{HasRoom, IsSoon}
 use Rattle.pz_tree_refreshing.specs.Refreshing.{Timely, AllTimely, RefreshRule}
-use Rattle.pz_tree_refreshing.specs.devices.Reached as reached
 use Rattle.pz_tree_refreshing.specs.devices.Reached.{reached_sum, Says}
 use Rattle.pz_tree_refreshing.specs.devices.Levels.{IsBare, AreBare, KidsTended, IsLeft}
 use Rattle.pz_tree_elapsing.specs.declared.turning.Turn.{Turn}
@@ -106,7 +105,7 @@ KidsRule b m n f h now i fuel kids k old new = (a : Context) (d c : ℕ) → lat
 pub record IsBrought (b : Context) (m n : Map What) (f : ℕ) (h : Head) (now i fuel key : ℕ) (k : Kept) (old new : ℕ) : Type 0 where
   pub kept : Kept
   pub rule : AtRule b m n f (inner_clock h i now) fuel key kept old new
-  pub brought : MayShift (behind_inside h i) kept.summary → k ≡ reached.later (behind_inside h i) kept
+  pub brought : MayShift (behind_inside h i) kept.summary → k ≡ kept_later (behind_inside h i) kept
 
 -- the child of this number
 abbrev pub KidRule : Context → Map What → Map What → ℕ → Head → ℕ → ℕ → ℕ → Option ℕ → Kept → ℕ → ℕ → Type 0
@@ -132,7 +131,7 @@ first_kid (kid ∷ kids) = kid
 pub record IsReturned (b : Context) (m n : Map What) (f : ℕ) (g : Head) (now key : ℕ) (k : Kept) (old new : ℕ) : Type 0 where
   pub mid : ℕ
   pub rule : RefreshRule b m n key f (inner_clock g 0 now) old mid
-  pub brought : (was : Node What) → n key ≡ Some was → MayShift (behind_inside g 0) was.what.kept.summary → k ≡ reached.later (behind_inside g 0) was.what.kept
+  pub brought : (was : Node What) → n key ≡ Some was → MayShift (behind_inside g 0) was.what.kept.summary → k ≡ kept_later (behind_inside g 0) was.what.kept
   pub ticks : new ≡ mid + 1
 
 abbrev pub ReturnRule : Context → Map What → Map What → ℕ → Head → ℕ → Option ℕ → Kept → ℕ → ℕ → Type 0

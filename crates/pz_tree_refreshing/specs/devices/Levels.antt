@@ -13,7 +13,7 @@ use Rattle.pz_tree_standing.specs.Right.{RightAll}
 use Rattle.pz_tree_standing.specs.Whole.{IsNoShift}
 use Rattle.pz_tree_nodes.specs.declared.kept.Kept.{Kept}
 use Rattle.pz_tree_nodes.specs.declared.node.What.{What}
-use Rattle.pz_tree_nodes.specs.Keeping.{kept_none, joined}
+use Rattle.pz_tree_nodes.specs.Keeping.{kept_none, joined, kept_later}
 use Rattle.pz_tree_nodes.specs.View.{Plant, Plants, head_view, shapes_of, term_in}
 use Rattle.pz_tree_nodes.specs.Tended.{Tended}
 use Rattle.pz_tree_nodes.specs.Fresh.{Fresh, AllFlagged}
@@ -21,7 +21,7 @@ use Rattle.pz_tree_refreshing.specs.Live.{live_below, live_among}
 use Rattle.pz_rules.specs.Short.{IsShort}
 use Rattle.pz_tree_standing.specs.Soon.{HasRoom, IsSoon}
 use Rattle.pz_tree_refreshing.specs.Refreshing.{Timely, AllTimely}
-use Rattle.pz_tree_refreshing.specs.devices.Reached.{Says, later}
+use Rattle.pz_tree_refreshing.specs.devices.Reached.{Says}
 
 -- the topmost node is no shift node
 abbrev pub IsBare : Plant → Type 0
@@ -108,7 +108,7 @@ pub record IsLeft (m n : Map What) (k : Kept) (old new : ℕ) : Type 0 where
 pub record IsBrought (a : Context) (m n : Map What) (f : ℕ) (h : Head) (c i fuel key : ℕ) (k : Kept) (old new : ℕ) : Type 0 where
   pub kept : Kept
   pub rule : AtRule a m n f (inner_clock h i c) fuel key kept old new
-  pub brought : MayShift (behind_inside h i) kept.summary → k ≡ later (behind_inside h i) kept
+  pub brought : MayShift (behind_inside h i) kept.summary → k ≡ kept_later (behind_inside h i) kept
 
 -- the child of this number
 abbrev pub KidRule : Context → Map What → Map What → ℕ → Head → ℕ → ℕ → ℕ → Option ℕ → Kept → ℕ → ℕ → Type 0

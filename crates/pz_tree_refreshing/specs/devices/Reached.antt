@@ -1,6 +1,6 @@
 -- What the active children of a node add to it, of any sort of sum.
 use Rattle.std.specs.Prelude.{◌≡◌, ◌||◌, ℕ, zero, suc, Bool, true, false}
-use Rattle.pz_offer.specs.Summaries.{nothing, join, shifted}
+use Rattle.pz_offer.specs.Summaries.{nothing, join}
 use Rattle.pz_rules.specs.Settings.{Context}
 use Rattle.pz_rules.specs.Terms.{Term, Terms, no_terms, and}
 use Rattle.pz_tree_standing.specs.Summaries.{summary_of}
@@ -26,7 +26,3 @@ pub record Says (a : Context) (c f : ℕ) (h : Head) (i : ℕ) (ts : Terms) (k :
   pub starts : k.starts ≡ reached_sum false ◌||◌ h (starts a f) i ts
   pub clocked : k.clocked ≡ reached_sum false ◌||◌ h (clocked a f) i ts
   pub soon : IsSoon c k.summary.due
-
--- seen from a clock that is ahead by so much
-abbrev pub later : ℕ → Kept → Kept
-later by k = record k { summary = shifted by k.summary }

@@ -7,7 +7,7 @@ use Rattle.pz_part_actions.specs.Homes.{standing_at, seen_home}
 use Rattle.pz_rules.specs.Acting.{IsActing}
 use Rattle.pz_part_actions.specs.Becoming.{process_left}
 use Rattle.pz_term_steps.specs.devices.Deeds.{CanAct}
-use Rattle.pz_term_steps.proofs.Statements.{acting_place}
+use Rattle.pz_part_actions.proofs.Statements.{acting_place}
 use Rattle.pz_term_steps.proofs.Marked.{known_is, may_act, part_is, place_is, part_fits, leaves_begun}
 use Rattle.pz_term_steps.proofs.beginning.begin_internal.Goals as goal
 

@@ -14,7 +14,7 @@ use Rattle.pz_part_actions.specs.Homes.{standing_at, seen_home}
 use Rattle.pz_rules.specs.Acting.{IsReceive}
 use Rattle.pz_part_actions.specs.Becoming.{done_left}
 use Rattle.pz_term_steps.specs.devices.Deeds.{CanReceive, settled_home}
-use Rattle.pz_term_steps.proofs.Statements.{receiving_place}
+use Rattle.pz_part_actions.proofs.Statements.{receiving_place}
 use Rattle.pz_term_steps.proofs.Marked.{known_is, may_act, part_is, place_is, as_it_is, leaves_begun}
 use Rattle.pz_term_steps.proofs.beginning.begin_receive.Goals as goal
 

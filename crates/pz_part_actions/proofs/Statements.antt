@@ -16,8 +16,8 @@ use Rattle.pz_rules.specs.InternalActions.{Can}
 use Rattle.pz_rules.specs.Messages as messages
 use Rattle.pz_rules.specs.Messages.{Sends, Receives}
 use Rattle.pz_rules.specs.View.{term_view, term_step}
-use Rattle.pz_term_processes.specs.devices.StatementPlaces.{IsFrom}
-use Rattle.pz_term_processes.proofs.StatementPlaces.{step_place}
+use Rattle.pz_part_actions.specs.StatementPlaces.{IsFrom}
+use Rattle.pz_part_actions.proofs.StatementPlaces.{step_place}
 
 -- the code's parts
 

@@ -6,7 +6,7 @@ use Rattle.pz_classes_code.specs.declared.step.StepForm.{StepForm}
 use Rattle.pz_classes_code.specs.declared.step.StepForm.TheOpen.{StepForm-F}
 use Rattle.pz_classes_code.specs.declared.step.StepForm.TheFolds.{fold_out-StepForm, the_lemmas}
 use Rattle.pz_classes_code.specs.StepView.{Tree, view, form_view, form_step, step_step}
-use Rattle.pz_tree_acting.specs.devices.StatementPlaces.{statement_place}
+use Rattle.pz_part_actions.specs.StatementPlaces.{statement_place}
 
 formed_place : (x : StepForm-F (Pos → Tree) Tree) (pos : Pos) → statement_place (form_step x pos) ≡ pos
 formed_place StepForm-F.Skip pos = refl

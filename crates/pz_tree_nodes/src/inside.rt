@@ -6,9 +6,9 @@ ghost use Rattle.pz_tree_standing.specs.Heads.{first_only, inner_clock, inner_fr
 ghost use Rattle.pz_tree_standing.specs.Reached as reached;
 ghost use Rattle.pz_tree_nodes.specs.View.{head_view};
 
+use crate::Head;
 use pz_clock::Shift;
 use pz_state::FrameId;
-use pz_tree_nodes::Head;
 
 fn is_first(number: usize) -> bool
     ensures { result ≡ reached.is_first number }
@@ -42,7 +42,7 @@ pub fn reaches(head: &Head, number: usize) -> bool
 }
 
 // What a clock shows, of any shift: no condition has to be known of the nodes.
-fn local_clock(shift: &Shift, outer: u128) -> u128
+pub(crate) fn local_clock(shift: &Shift, outer: u128) -> u128
     ensures { result ≡ local shift.now outer }
 {
     match shift.since() {
