@@ -37,7 +37,8 @@ fn list_of(
     Shared::new(alloc, list)
 }
 
-/// So many of the first names of a list.
+/// So many of the first names of a list. The only error is that the list has as many owners as can be
+/// counted.
 fn first_of(list: &Shared<NameList>, count: usize) -> Result<NameFront, AllocError>
     requires within { count ≤ length list.now.names }
     requires few { count < 2 ^ 32 }

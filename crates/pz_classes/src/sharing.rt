@@ -76,31 +76,8 @@ fn front_above<'a>(table: &'a [Option<Front>], root: &'a Front, parent: Option<u
     front_at(table, class).unwrap_or(root)
 }
 
-/// Makes the line that begins with this class, and puts what its classes have into the table. The
-/// only error is want of memory.
-fn add_line(
-    alloc: Global,
-    model: &Model,
-    parents: &[Option<u32>],
-    heirs: &[Option<u32>],
-    above: Front,
-    first: u32,
-    table: &mut [Option<Front>],
-) -> Result<(), AllocError>
-    requires extending { (c : ℕ) → parent_in parents.now c ≡ parent (model_view model.now) c }
-    requires acyclic { (c : ℕ) → GoesRound (parent (model_view model.now)) c → ⊥ }
-    requires few { HasFewMarks (model_view model.now) }
-    requires within { first < length model.now.decls + 1 }
-    requires inherits { Inherits (model_view model.now) first above }
-    requires table { IsTable (model_view model.now) table.old }
-    ensures { OnOk result (Fills (model_view model.now) (first ∷ []) table.old table.new) }
-{
-    let Line { own, ends } = line_from(alloc, model, parents, heirs, first)?;
-    let lists = Lists::new(alloc, above, own)?;
-    lists.fill(model, ends.as_slice(), table)
-}
-
-/// Sees to it that something is kept of this class. The only error is want of memory.
+/// Sees to it that something is kept of this class: where nothing is, the line that begins with it is made,
+/// and what its classes have put into the table. The only error is want of memory.
 fn visit_class(
     alloc: Global,
     model: &Model,
@@ -123,7 +100,9 @@ fn visit_class(
         return Ok(());
     }
     let above = front_above(table, root, parent_at(parents, class)).copy()?;
-    add_line(alloc, model, parents, heirs, above, class, table)
+    let Line { own, ends } = line_from(alloc, model, parents, heirs, class)?;
+    let lists = Lists::new(alloc, above, own)?;
+    lists.fill(model, ends.as_slice(), table)
 }
 
 /// Puts what each class has at its number. The classes come in an order in which each stands behind
