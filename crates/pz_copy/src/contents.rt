@@ -45,7 +45,8 @@ impl Contents {
         objects: Vec<Object>,
     ) -> Result<Contents, AllocError>
         ensures values { IfOk result (λ contents. values_of contents ≡ values.items) }
-        ensures objects { IfOk result (λ contents. objects_of contents ≡ plain_objects objects.items) }
+        ensures objects { IfOk result (λ contents. objects_of contents ≡
+            plain_objects objects.items) }
     {
         let sharing = Box::new(alloc, Sharing { values, objects })?;
         Ok(Contents::Sharing(sharing))
@@ -89,7 +90,8 @@ impl Sharing {
     /// Equal values and objects. The only error is want of memory.
     fn copy(&self, alloc: Global) -> Result<Contents, AllocError>
         ensures values { IfOk result (λ copy. values_of copy ≡ self.now.values.items) }
-        ensures objects { IfOk result (λ copy. objects_of copy ≡ plain_objects self.now.objects.items) }
+        ensures objects { IfOk result (λ copy. objects_of copy ≡
+            plain_objects self.now.objects.items) }
     {
         let values = copy_values(alloc, &self.values)?;
         let objects = copy_objects(alloc, &self.objects)?;

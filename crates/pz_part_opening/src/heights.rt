@@ -63,7 +63,8 @@ fn above(part: u64, room: u64) -> u64
 /// to `room` of them in one another.
 #[cycle(heights)]
 fn within(home: &Home<'_>, spot: Spot<'_>, room: u64) -> u64
-    ensures { result ≡ min (height (outlined_all (home_view home.now) (spot_view spot.entry))) room }
+    ensures { result ≡ min (height (outlined_all (home_view home.now)
+        (spot_view spot.entry))) room }
 {
     if room == 0 {
         return 0;
@@ -81,7 +82,8 @@ fn within(home: &Home<'_>, spot: Spot<'_>, room: u64) -> u64
 #[cycle(heights)]
 fn standing_within(home: &Home<'_>, spot: Spot<'_>, room: u64) -> u64
     requires { Stands (home_view home.now) (spot_view spot) }
-    ensures { result ≡ min (height (outlined_all (home_view home.now) (spot_view spot.entry))) room }
+    ensures { result ≡ min (height (outlined_all (home_view home.now)
+        (spot_view spot.entry))) room }
 {
     if room == 0 {
         return 0;

@@ -84,7 +84,8 @@ fn open_spot(
     spot: Spot<'_>,
     state: &mut State,
 ) -> Result<Term, AllocError>
-    ensures opened { IfOk result (λ term. Became (opened_all (home_view home.now) (spot_view spot.entry)
+    ensures opened { IfOk result (λ term. Became (opened_all (home_view home.now)
+        (spot_view spot.entry)
         state.old.held) (term_view term) state.old state.new) }
     ensures marks { state.new.marks ≡ state.old.marks }
 {
@@ -104,7 +105,8 @@ fn open_standing(
     state: &mut State,
 ) -> Result<Term, AllocError>
     requires { Stands (home_view home.now) (spot_view spot) }
-    ensures opened { IfOk result (λ term. Became (opened_all (home_view home.now) (spot_view spot.entry)
+    ensures opened { IfOk result (λ term. Became (opened_all (home_view home.now)
+        (spot_view spot.entry)
         state.old.held) (term_view term) state.old state.new) }
     ensures marks { state.new.marks ≡ state.old.marks }
 {
@@ -178,7 +180,8 @@ fn open_branches(
     branches: &[Shared<Items<Step>>],
     state: &mut State,
 ) -> Result<Items<Term>, AllocError>
-    ensures opened { IfOk result (λ terms. BecameBeside (branches_opened (enter (home_view home.now))
+    ensures opened { IfOk result (λ terms. BecameBeside
+        (branches_opened (enter (home_view home.now))
         (branches_view branches.now) state.old.held) (terms_view terms) state.old state.new) }
     ensures marks { state.new.marks ≡ state.old.marks }
 {

@@ -55,7 +55,8 @@ pub fn run_program<F: Files, W: Sink>(
         PrintsAll a (F.state files.old).held (W.state out.old) (W.state out.new) result.status) }
     // Where the files failed, the line that says so names the last file that was opened.
     ensures read_fault { OfAsked (map string_bytes words.now) (λ a.
-        result.status ≡ Status.ReadFault → Rose (F.state files.old).faults (F.state files.new).faults →
+        result.status ≡ Status.ReadFault → Rose (F.state files.old).faults
+        (F.state files.new).faults →
         SaysFault (files_of a) (F.state files.old) (F.state files.new) (W.state out.old)
         (W.state out.new)) }
     // The files of the job are opened in their order and no others; without a file nothing is, also not
@@ -68,7 +69,8 @@ pub fn run_program<F: Files, W: Sink>(
         result.status ≡ Status.WriteFault →
         PrintsFront a (F.state files.old) (F.state files.new) (W.state out.old) (W.state out.new)) }
     ensures no_memory { OfAsked (map string_bytes words.now) (λ a.
-        (F.state files.old).told ≡ true → (W.state out.old).told ≡ true → result.status ≡ Status.NoMemory →
+        (F.state files.old).told ≡ true → (W.state out.old).told ≡ true →
+        result.status ≡ Status.NoMemory →
         PrintsFront a (F.state files.old) (F.state files.new) (W.state out.old) (W.state out.new)) }
     // After a call that failed no more is asked of the files or of the sink.
     ensures last_read { (F.state files.new).faults ≢ (F.state files.old).faults →
@@ -89,7 +91,8 @@ pub fn run_program<F: Files, W: Sink>(
         IsNoModel a (F.state files.old).held) }
     ensures no_model { OfAsked (map string_bytes words.now) (λ a.
         IsNoModel a (F.state files.old).held → (F.state files.old).told ≡ true →
-        CameThrough (F.state files.old) (F.state files.new) result.status → result.status ≡ Status.ModelRefused) }
+        CameThrough (F.state files.old) (F.state files.new) result.status →
+        result.status ≡ Status.ModelRefused) }
     ensures deadlock { OfAsked (map string_bytes words.now) (λ a.
         (F.state files.old).told ≡ true → result.status ≡ Status.Deadlock →
         RunEnds a (F.state files.old).held deadlocked) }
@@ -104,14 +107,16 @@ pub fn run_program<F: Files, W: Sink>(
     ensures run_end { OfAsked (map string_bytes words.now) (λ a.
         (ending : Ending) → RunEnds a (F.state files.old).held ending →
         (F.state files.old).told ≡ true →
-        CameThrough (F.state files.old) (F.state files.new) result.status → result.status ≡ status_of ending) }
+        CameThrough (F.state files.old) (F.state files.new) result.status →
+        result.status ≡ status_of ending) }
     // A trace is refused exactly where it is the text of no run of the model.
     ensures trace_refused { OfAsked (map string_bytes words.now) (λ a.
         (F.state files.old).told ≡ true → result.status ≡ Status.TraceRefused →
         IsNoTrace a (F.state files.old).held) }
     ensures no_trace { OfAsked (map string_bytes words.now) (λ a.
         IsNoTrace a (F.state files.old).held → (F.state files.old).told ≡ true →
-        CameThrough (F.state files.old) (F.state files.new) result.status → result.status ≡ Status.TraceRefused) }
+        CameThrough (F.state files.old) (F.state files.new) result.status →
+        result.status ≡ Status.TraceRefused) }
     // Broken watches are told exactly where the run has ended or was stopped, and a watch is broken at one of
     // its lines.
     ensures watch_broken { OfAsked (map string_bytes words.now) (λ a.
@@ -119,21 +124,24 @@ pub fn run_program<F: Files, W: Sink>(
         IsBrokenAt a (F.state files.old).held) }
     ensures broken_watch { OfAsked (map string_bytes words.now) (λ a.
         IsBrokenAt a (F.state files.old).held → (F.state files.old).told ≡ true →
-        CameThrough (F.state files.old) (F.state files.new) result.status → result.status ≡ Status.WatchBroken) }
+        CameThrough (F.state files.old) (F.state files.new) result.status →
+        result.status ≡ Status.WatchBroken) }
     // Watches are refused exactly where their file is no list of watches.
     ensures watch_refused { OfAsked (map string_bytes words.now) (λ a.
         (F.state files.old).told ≡ true → result.status ≡ Status.WatchRefused →
         IsNoWatches a (F.state files.old).held) }
     ensures no_watches { OfAsked (map string_bytes words.now) (λ a.
         IsNoWatches a (F.state files.old).held → (F.state files.old).told ≡ true →
-        CameThrough (F.state files.old) (F.state files.new) result.status → result.status ≡ Status.WatchRefused) }
+        CameThrough (F.state files.old) (F.state files.new) result.status →
+        result.status ≡ Status.WatchRefused) }
     // A script is refused exactly where the file is none, or that cannot drive the system.
     ensures script_refused { OfAsked (map string_bytes words.now) (λ a.
         (F.state files.old).told ≡ true → result.status ≡ Status.ScriptRefused →
         IsNoScript a (F.state files.old).held) }
     ensures no_script { OfAsked (map string_bytes words.now) (λ a.
         IsNoScript a (F.state files.old).held → (F.state files.old).told ≡ true →
-        CameThrough (F.state files.old) (F.state files.new) result.status → result.status ≡ Status.ScriptRefused) }
+        CameThrough (F.state files.old) (F.state files.new) result.status →
+        result.status ≡ Status.ScriptRefused) }
     // A second file is opened only once C1 to C22 accept the model, and but for a replay C23 and C24 too.
     ensures trace_opened { OfAsked (map string_bytes words.now) (λ a.
         (F.state files.old).told ≡ true →
@@ -146,7 +154,8 @@ pub fn run_program<F: Files, W: Sink>(
         (F.state files.old).told ≡ true → result.status ≡ Status.TooLong →
         IsLonger (files_of a) (F.state files.old).held) }
     ensures read_cause { OfAsked (map string_bytes words.now) (λ a.
-        result.status ≡ Status.ReadFault → Rose (F.state files.old).faults (F.state files.new).faults
+        result.status ≡ Status.ReadFault → Rose (F.state files.old).faults
+        (F.state files.new).faults
         ⊎ (((F.state files.old).told ≡ true) × Lacks (files_of a) (F.state files.old).held)) }
     ensures write_cause { result.status ≡ Status.WriteFault →
         Rose (W.state out.old).faults (W.state out.new).faults }

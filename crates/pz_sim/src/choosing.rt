@@ -184,7 +184,8 @@ fn go_on_in<L: Ledger>(
         trees.new.items totals.new pairs.new standing ∥₁) }
     ensures ticks { IfOk result (λ standing. IfGoesOn (simulation_at (setting_at scene.entry)
         scene.entry.clock trees.new.items standing) (∥ TakesSoon (setting_at scene.entry)
-        scene.entry.clock k trees.old.items trees.new.items pairs.new.pairs steps.old steps.new ∥₁)) }
+        scene.entry.clock k trees.old.items trees.new.items pairs.new.pairs steps.old
+        steps.new ∥₁)) }
 {
     go_on(scene, trees.as_mut_slice(), totals, pairs, k, steps)
 }

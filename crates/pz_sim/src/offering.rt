@@ -21,7 +21,8 @@ use std::alloc::AllocError;
 /// The internal action of this number in the process of a tree, which has one. The only error is want of memory.
 fn internal_action(tree: &Tree, found: Found) -> Result<Action, AllocError>
     requires number { found.process < 2 ^ 32 }
-    requires there { ∥ ((m : ModelTree) × IsFresh m tree.now × HasAction m tree.now found.number) ∥₁ }
+    requires there { ∥ ((m : ModelTree) × IsFresh m tree.now × HasAction m tree.now
+        found.number) ∥₁ }
     ensures is { (m : ModelTree) → IsFresh m tree.now →
         IfOk result (IsActionOf m tree.now found.process found.number) }
 {

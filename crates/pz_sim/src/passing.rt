@@ -43,7 +43,8 @@ fn silence_clocked<L: Ledger>(
     requires within { process < length trees.old }
     requires silent { ∥ AreSilenced (model_at scene) scene.clock process trees.old pairs.old
         named.old.items ∥₁ }
-    ensures silent { OnOk result (∥ AreSilenced (model_at scene.entry) scene.entry.clock (process + 1)
+    ensures silent { OnOk result (∥ AreSilenced (model_at scene.entry)
+        scene.entry.clock (process + 1)
         trees.old pairs.new named.new.items ∥₁) }
     ensures trees { trees.new ≡ trees.old }
     ensures ticks { OnOk result (steps.new ≡ steps.old) }
@@ -74,7 +75,8 @@ fn silence_all<L: Ledger>(
 ) -> Result<Vec<u32>, AllocError>
     requires count { count ≡ length trees.old }
     requires silent { ∥ AreSilenced (model_at scene) scene.clock 0 trees.old pairs.old [] ∥₁ }
-    ensures silent { IfOk result (λ named. ∥ AreSilenced (model_at scene.entry) scene.entry.clock count
+    ensures silent { IfOk result (λ named. ∥ AreSilenced (model_at scene.entry)
+        scene.entry.clock count
         trees.old pairs.new named.items ∥₁) }
     ensures trees { trees.new ≡ trees.old }
     ensures ticks { OnOk result (steps.new ≡ steps.old) }

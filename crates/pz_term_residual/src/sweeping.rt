@@ -125,7 +125,8 @@ fn close_if(frame: FrameId, gone: &[u64], state: &mut State) -> Result<(), Alloc
 /// open frames, but for a logarithm. The only error is want of memory, and of the state nothing is said then.
 pub fn close_those(gone: &[u64], state: &mut State) -> Result<(), AllocError>
     requires { IsNonDecreasing gone.now }
-    ensures closed { OnOk result (state.new ≡ changed state.old (without_frames gone.now state.old.held)) }
+    ensures closed { OnOk result (state.new ≡ changed state.old
+        (without_frames gone.now state.old.held)) }
     ensures ordered { AllPairs (λ m n. m < n) (map (λ f. f.0) state.old.held.frames) }
 {
     let frames = state.frames()?;

@@ -57,9 +57,11 @@ impl Tree {
         requires fresh { ∥ IsFresh (checked_model checked.now) self.old ∥₁ }
         requires later { self.old.clock ≤ clock }
         requires room { HasRoom clock }
-        requires no_trouble { (summary_of (at_in (checked_model checked.now) self.old) self.old.clock 0
+        requires no_trouble { (summary_of (at_in (checked_model checked.now) self.old)
+            self.old.clock 0
             (term_in self.old)).trouble ≡ None }
-        requires due { IfSome (summary_of (at_in (checked_model checked.now) self.old) self.old.clock 0
+        requires due { IfSome (summary_of (at_in (checked_model checked.now) self.old)
+            self.old.clock 0
             (term_in self.old)).due (λ due. clock ≤ due) }
         ensures passes { result ≡ true → IsFresh (checked_model checked.now) self.old →
             Passes (at_in (checked_model checked.now) self.old) (clock - self.old.clock) 0
@@ -68,7 +70,8 @@ impl Tree {
             later (at_in (checked_model checked.now) self.old) (clock - self.old.clock) }
         ensures fresh { result ≡ true → ∥ IsFresh (checked_model checked.now) self.new ∥₁ }
         ensures summary { result ≡ true → IsFresh (checked_model checked.now) self.old →
-            summary_of (at_in (checked_model checked.now) self.new) self.new.clock 0 (term_in self.new)
+            summary_of (at_in (checked_model checked.now) self.new) self.new.clock 0
+            (term_in self.new)
             ≡ summary_of (at_in (checked_model checked.now) self.old) self.old.clock 0
             (term_in self.old) }
         ensures done { result ≡ true → IsFresh (checked_model checked.now) self.old →
@@ -100,9 +103,11 @@ impl Tree {
         requires fresh { ∥ IsFresh (checked_model checked.now) self.old ∥₁ }
         requires later { self.old.clock ≤ clock }
         requires room { HasRoom clock }
-        requires no_trouble { (summary_of (at_in (checked_model checked.now) self.old) self.old.clock 0
+        requires no_trouble { (summary_of (at_in (checked_model checked.now) self.old)
+            self.old.clock 0
             (term_in self.old)).trouble ≡ None }
-        requires due { IfSome (summary_of (at_in (checked_model checked.now) self.old) self.old.clock 0
+        requires due { IfSome (summary_of (at_in (checked_model checked.now) self.old)
+            self.old.clock 0
             (term_in self.old)).due (λ due. clock ≤ due) }
         ensures passes { IsFresh (checked_model checked.now) self.old → OnOk result
             (Passes (at_in (checked_model checked.now) self.old) (clock - self.old.clock) 0

@@ -42,7 +42,8 @@ fn finish<L: Ledger>(
     requires stands { ∥ MayGoOn (find nodes.old) root clock place.now ∥₁ }
     requires room { HasRoom clock }
     requires short { IsShort (term_view begun.part) }
-    ensures { IfOk result (λ out. StayRule (home_view home.now) (find nodes.old) (find nodes.new) root clock
+    ensures { IfOk result (λ out. StayRule (home_view home.now) (find nodes.old)
+        (find nodes.new) root clock
         place.now (term_view begun.part) listed.items out state.old state.new steps.old steps.new) }
 {
     let Begun { point, part } = begun;
@@ -90,10 +91,13 @@ pub fn act<L: Ledger>(
     steps: &mut Steps<L>,
 ) -> Result<Result<Option<Key>, Trouble>, AllocError>
     requires knows { Knows (checked_model home.now.checked.now) here.now }
-    requires can { ∥ MayBeDone here.now home.now how (find nodes.old) root state.old.held place.now ∥₁ }
-    ensures acts { IfOk result (λ left. ActRule here.now home.now how.entry (find nodes.old) (find nodes.new) root
+    requires can { ∥ MayBeDone here.now home.now how (find nodes.old) root state.old.held
+        place.now ∥₁ }
+    ensures acts { IfOk result (λ left. ActRule here.now home.now how.entry (find nodes.old)
+        (find nodes.new) root
         place.now left state.old state.new steps.old steps.new) }
-    ensures stays { IfOk result (λ left. OnErr left ((nodes.new ≡ nodes.old) × (state.new ≡ state.old))) }
+    ensures stays { IfOk result (λ left. OnErr left
+        ((nodes.new ≡ nodes.old) × (state.new ≡ state.old))) }
 {
     pz_term_residual::laws::active_parts_may_act();
     pz_rules::laws::offered_parts_act();
@@ -125,11 +129,14 @@ pub fn trial<L: Ledger>(
     steps: &mut Steps<L>,
 ) -> Result<Result<(), Trouble>, AllocError>
     requires knows { Knows (checked_model home.now.checked.now) here.now }
-    requires can { ∥ MayBeDone here.now home.now how (find nodes.now) root state.old.held place.now ∥₁ }
-    ensures answers { IfOk result (λ left. TrialRule here.now home.now how.entry (find nodes.now) root place.now left
+    requires can { ∥ MayBeDone here.now home.now how (find nodes.now) root state.old.held
+        place.now ∥₁ }
+    ensures answers { IfOk result (λ left. TrialRule here.now home.now how.entry (find nodes.now)
+        root place.now left
         state.old.held) }
     ensures stays { OnOk result (state.new ≡ state.old) }
-    ensures ticks { OnOk result (TrialSteps here.now home.now how.entry (find nodes.now) root place.now state.old.held
+    ensures ticks { OnOk result (TrialSteps here.now home.now how.entry (find nodes.now) root
+        place.now state.old.held
         steps.old steps.new) }
 {
     match begin(alloc, here, home, nodes, root, place, how, state, steps)? {

@@ -49,7 +49,8 @@ fn do_send(
 ) -> Result<Result<Term, Trouble>, AllocError>
     requires knows { Knows (checked_model home.now.checked.now) here.now }
     requires sends { IsSend (term_view part.now) }
-    ensures answers { IfOk result (IsHanded here.now home.now state.old.held frame.0 (term_view part.now)
+    ensures answers { IfOk result (IsHanded here.now home.now state.old.held frame.0
+        (term_view part.now)
         state.new.held) }
     ensures marks { OnOk result (state.new.marks ≡ state.old.marks) }
 {
@@ -69,7 +70,8 @@ fn do_receive(
 ) -> Result<Result<Term, Trouble>, AllocError>
     requires knows { Knows (checked_model home.now.checked.now) here.now }
     requires receives { IsReceive (term_view part.now) }
-    ensures answers { IfOk result (IsTaken here.now home.now state.old.held frame.0 (term_view part.now)
+    ensures answers { IfOk result (IsTaken here.now home.now state.old.held frame.0
+        (term_view part.now)
         parcel.now state.new.held) }
     ensures marks { OnOk result (state.new.marks ≡ state.old.marks) }
 {
@@ -90,7 +92,8 @@ fn do_deed(
     requires knows { Knows (checked_model home.now.checked.now) here.now }
     requires acts { ActsSo how (term_view part.now) }
     requires fits { ∥ FitsHere here.now home.now.class (term_view part.now) ∥₁ }
-    ensures answers { IfOk result (λ left. DeedRule here.now home.now how.entry state.old.held frame.0
+    ensures answers { IfOk result (λ left. DeedRule here.now home.now how.entry
+        state.old.held frame.0
         (term_view part.now) (process_left state.new.held left)) }
     ensures marks { OnOk result (state.new.marks ≡ state.old.marks) }
 {
@@ -116,7 +119,8 @@ fn hold<L: Ledger>(
     steps: &mut Steps<L>,
 ) -> Result<Begun, Trouble>
     requires latest { IsLatest state.old point }
-    ensures left { HoldRule here.now home.now (find nodes.now) root place.now pos state.old.held left result }
+    ensures left { HoldRule here.now home.now (find nodes.now) root place.now pos
+        state.old.held left result }
     ensures state { MatchResult result (λ begun. (state.new ≡ state.old) × (begun.point ≡ point))
         (λ trouble. state.new ≡ undone state.old) }
     ensures part { IfOk result (λ begun. left ≡ Ok begun.part) }
@@ -152,13 +156,16 @@ pub(crate) fn begin<L: Ledger>(
     steps: &mut Steps<L>,
 ) -> Result<Result<Begun, Trouble>, AllocError>
     requires knows { Knows (checked_model home.now.checked.now) here.now }
-    requires can { ∥ MayBeDone here.now home.now how (find nodes.now) root state.old.held place.now ∥₁ }
-    ensures leaves { IfOk result (λ begun. BeginRule here.now home.now how.entry (find nodes.now) root place.now
+    requires can { ∥ MayBeDone here.now home.now how (find nodes.now) root state.old.held
+        place.now ∥₁ }
+    ensures leaves { IfOk result (λ begun. BeginRule here.now home.now how.entry (find nodes.now)
+        root place.now
         state.old.held state.new.held begun) }
     ensures state { IfOk result (IsBegun state.old state.new) }
     ensures opens { IfOk result (Opens home.now.edition state.old.held state.new.held) }
     ensures short { IfOk result (λ begun. IfOk begun (λ b. IsShort (term_view b.part))) }
-    ensures ticks { OnOk result (TrialSteps here.now home.now how.entry (find nodes.now) root place.now
+    ensures ticks { OnOk result (TrialSteps here.now home.now how.entry (find nodes.now)
+        root place.now
         state.old.held steps.old steps.new) }
 {
     pz_term_residual::laws::active_parts_may_act();

@@ -65,7 +65,8 @@ pub(crate) fn list_part(
     part: &Term,
     listed: &mut Vec<u64>,
 ) -> Result<(), AllocError>
-    ensures { OnOk result (AlsoLists edition (term_view part.now) listed.old.items listed.new.items) }
+    ensures { OnOk result (AlsoLists edition (term_view part.now) listed.old.items
+        listed.new.items) }
 {
     match edition {
         Edition::One => Ok(()),
@@ -118,7 +119,8 @@ pub(crate) fn close_frames(
     lost: &[FrameId],
     state: &mut State,
 ) -> Result<(), AllocError>
-    ensures closed { OnOk result (CloseRule edition listed.items (numbers lost.now) state.old state.new) }
+    ensures closed { OnOk result (CloseRule edition listed.items (numbers lost.now)
+        state.old state.new) }
     ensures marks { OnOk result (state.new.marks ≡ state.old.marks) }
 {
     match edition {

@@ -34,7 +34,8 @@ pub(crate) fn part_under<L: Ledger>(
     spot: Spot,
     steps: &mut Steps<L>,
 ) -> Result<Term, AllocError>
-    ensures part { IfOk result (λ part. PartRule (seen what_view (find nodes.now)) spot.key spot.clock
+    ensures part { IfOk result (λ part. PartRule (seen what_view (find nodes.now))
+        spot.key spot.clock
         (term_view part)) }
     ensures ticks { steps.new ≤ steps.old + 1 }
 {

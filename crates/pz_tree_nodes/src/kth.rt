@@ -112,7 +112,8 @@ pub fn kth_internal<L: Ledger>(
 ) -> Result<Option<ActingPart>, AllocError>
     ensures action { IfOk result (ChoiceRule (find nodes.now) root.key root.frame.0 root.clock
         levels k) }
-    ensures part { IfOk result (ChosenRule (find nodes.now) root.key root.frame.0 root.clock levels) }
+    ensures part { IfOk result (ChosenRule (find nodes.now) root.key root.frame.0
+        root.clock levels) }
 {
     let mut place = Place::root(alloc);
     let mut spot = past_shift(nodes, root, steps);

@@ -35,7 +35,8 @@ fn list_part<L: Ledger>(
     found: &mut Vec<Part>,
     steps: &mut Steps<L>,
 ) -> Result<(), AllocError>
-    ensures adds { OnOk result (AddRule offering (find nodes.now) start.key start.frame.0 start.clock
+    ensures adds { OnOk result (AddRule offering (find nodes.now) start.key
+        start.frame.0 start.clock
         levels place.old found.old.items found.new.items) }
     ensures place { OnOk result (place.new ≡ place.old) }
 {

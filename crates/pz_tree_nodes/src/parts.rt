@@ -34,8 +34,10 @@ fn kid_in(node: &Node, number: usize) -> Option<Key>
 
 // Past the shift node, if there is one: it is no part of the term, and what is below it is none.
 pub(crate) fn past_shift<L: Ledger>(nodes: &Nodes<Node>, spot: Spot, steps: &mut Steps<L>) -> Spot
-    ensures past { PastRule (seen what_view (find nodes.now)) spot.key spot.clock result.key result.clock }
-    ensures right { PastRightRule (find nodes.now) spot.key spot.frame.0 spot.clock result.key result.clock }
+    ensures past { PastRule (seen what_view (find nodes.now)) spot.key spot.clock result.key
+        result.clock }
+    ensures right { PastRightRule (find nodes.now) spot.key spot.frame.0 spot.clock result.key
+        result.clock }
     ensures frame { result.frame ≡ spot.frame }
     ensures ticks { steps.new ≤ steps.old + 1 }
 {

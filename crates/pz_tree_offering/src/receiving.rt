@@ -19,7 +19,8 @@ fn add_receive<L: Ledger>(
     receives: &mut Vec<ActiveReceive>,
     steps: &mut Steps<L>,
 ) -> Result<(), AllocError>
-    ensures { OnOk result (ReceiveRule (find nodes.now) part receives.old.items receives.new.items) }
+    ensures { OnOk result (ReceiveRule (find nodes.now) part receives.old.items
+        receives.new.items) }
 {
     let Some(node) = nodes.get(part.key, steps) else {
         return Ok(());

@@ -87,7 +87,8 @@ fn ask_guard(
 ) -> Result<What, AllocError>
     requires { AreKnown here.now.classes.now }
     ensures asked { (m : ModelTree) (class : ℕ) → Knows m here.now →
-        IfOk result (λ x. AskRule (seen_from m here.now class state.old.held) spot.frame.0 spot.clock
+        IfOk result (λ x. AskRule (seen_from m here.now class state.old.held)
+        spot.frame.0 spot.clock
         (head_view (Head.Guard test pos shift)) (head_view x.head) x.kept) }
     ensures state { state.new ≡ state.old }
 {
@@ -201,7 +202,8 @@ fn ask_leaf(
 ) -> Result<What, AllocError>
     requires { AreKnown here.now.classes.now }
     ensures asked { (m : ModelTree) (class : ℕ) → Knows m here.now →
-        IfOk result (λ x. AskRule (seen_from m here.now class state.old.held) spot.frame.0 spot.clock
+        IfOk result (λ x. AskRule (seen_from m here.now class state.old.held)
+        spot.frame.0 spot.clock
         (head_view (Head.Leaf step)) (head_view x.head) x.kept) }
     ensures state { state.new ≡ state.old }
 {
@@ -236,7 +238,8 @@ pub fn ask(
 ) -> Result<What, AllocError>
     requires { AreKnown here.now.classes.now }
     ensures asked { (m : ModelTree) (class : ℕ) → Knows m here.now →
-        IfOk result (λ x. AskRule (seen_from m here.now class state.old.held) spot.frame.0 spot.clock
+        IfOk result (λ x. AskRule (seen_from m here.now class state.old.held)
+        spot.frame.0 spot.clock
         (head_view head) (head_view x.head) x.kept) }
     ensures state { state.new ≡ state.old }
 {

@@ -12,7 +12,8 @@ use pz_tree_nodes::Head;
 
 /// How many clock units it is behind, if it runs from now on, where the clock around it shows `outer`.
 pub(crate) fn behind_now(shift: &Shift, outer: u128) -> u128
-    ensures { ShiftFits shift.now outer → result ≡ behind_since shift.now.behind shift.now.since outer }
+    ensures { ShiftFits shift.now outer → result ≡
+        behind_since shift.now.behind shift.now.since outer }
 {
     match shift.since() {
         None => shift.behind(),

@@ -117,7 +117,8 @@ pub(crate) fn finish_abort<L: Ledger>(
     steps: &mut Steps<L>,
 ) -> Result<Option<Key>, AllocError>
     ensures { IfOk result (λ out. (c : ℕ) → LosingRule c key heads.abort kids number out
-        (find nodes.old) (find nodes.new) (numbers lost.old.items) (numbers lost.new.items) steps.old
+        (find nodes.old) (find nodes.new) (numbers lost.old.items)
+        (numbers lost.new.items) steps.old
         steps.new) }
 {
     if number != 0 {
@@ -144,8 +145,10 @@ pub(crate) fn finish_first<L: Ledger>(
     lost: &mut Vec<FrameId>,
     steps: &mut Steps<L>,
 ) -> Result<Option<Key>, AllocError>
-    ensures { IfOk result (λ out. (c : ℕ) → LosingRule c key (heads.idle (view again) shift) kids 0 out
-        (find nodes.old) (find nodes.new) (numbers lost.old.items) (numbers lost.new.items) steps.old
+    ensures { IfOk result (λ out. (c : ℕ) → LosingRule c key
+        (heads.idle (view again) shift) kids 0 out
+        (find nodes.old) (find nodes.new) (numbers lost.old.items)
+        (numbers lost.new.items) steps.old
         steps.new) }
 {
     let left = kid_in(&kids, 0);
@@ -173,8 +176,10 @@ fn resume<L: Ledger>(
     gained: &mut Vec<u64>,
     steps: &mut Steps<L>,
 ) -> Result<Option<Key>, AllocError>
-    ensures { IfOk result (λ out. ResumeRule (home_view home.now) clock key (view again) shift first out
-        (find nodes.old) (find nodes.new) state.old state.new gained.old.items gained.new.items steps.old
+    ensures { IfOk result (λ out. ResumeRule (home_view home.now) clock key (view again)
+        shift first out
+        (find nodes.old) (find nodes.new) state.old state.new gained.old.items
+        gained.new.items steps.old
         steps.new) }
 {
     let term = open_step(alloc, home, again.get(), state)?;
@@ -224,8 +229,10 @@ pub(crate) fn finish_second<L: Ledger>(
     gained: &mut Vec<u64>,
     steps: &mut Steps<L>,
 ) -> Result<Option<Key>, AllocError>
-    ensures { IfOk result (λ out. SecondRule (home_view home.now) clock key (view again) shift kids out
-        (find nodes.old) (find nodes.new) state.old state.new gained.old.items gained.new.items steps.old
+    ensures { IfOk result (λ out. SecondRule (home_view home.now) clock key (view again)
+        shift kids out
+        (find nodes.old) (find nodes.new) state.old state.new gained.old.items
+        gained.new.items steps.old
         steps.new) }
 {
     if kid_in(&kids, 1).is_none() {

@@ -78,7 +78,8 @@ fn end_frame<L: Ledger>(
     lost: &mut Vec<FrameId>,
     steps: &mut Steps<L>,
 ) -> Result<Option<Key>, AllocError>
-    ensures { IfOk result (λ out. (home : Home) (c i : ℕ) (fresh : List ℕ) → FinishRule home outer.0 c key
+    ensures { IfOk result (λ out. (home : Home) (c i : ℕ) (fresh : List ℕ) →
+        FinishRule home outer.0 c key
         (frame call.own.0 call.inputs call.results) (None ∷ []) i out
         (at_work (find nodes.old) state.old (numbers lost.old.items) fresh steps.old)
         (at_work (find nodes.new) state.new (numbers lost.new.items) fresh steps.new)) }
@@ -105,7 +106,8 @@ fn frame_round<L: Ledger>(
     steps: &mut Steps<L>,
 ) -> Result<Option<Key>, AllocError>
     ensures { IfOk result (λ out. (c i : ℕ) → LosingRule c key
-        (frame call.own.0 call.inputs call.results) (Some kid ∷ []) i out (find nodes.old) (find nodes.new)
+        (frame call.own.0 call.inputs call.results) (Some kid ∷ []) i out (find nodes.old)
+        (find nodes.new)
         (numbers lost.old.items) (numbers lost.new.items) steps.old steps.new) }
 {
     let bare = stands_bare(nodes, kid, steps);
@@ -142,7 +144,8 @@ pub(crate) fn finish_frame<L: Ledger>(
     lost: &mut Vec<FrameId>,
     steps: &mut Steps<L>,
 ) -> Result<Option<Key>, AllocError>
-    ensures { IfOk result (λ out. (home : Home) (c i : ℕ) (fresh : List ℕ) → FinishRule home outer.0 c key
+    ensures { IfOk result (λ out. (home : Home) (c i : ℕ) (fresh : List ℕ) →
+        FinishRule home outer.0 c key
         (frame call.own.0 call.inputs call.results) (left ∷ []) i out
         (at_work (find nodes.old) state.old (numbers lost.old.items) fresh steps.old)
         (at_work (find nodes.new) state.new (numbers lost.new.items) fresh steps.new)) }

@@ -42,7 +42,8 @@ pub(crate) fn abort_kept(first: &Kept, second: &Kept) -> Result<Kept, AllocError
 
 /// Of an interrupt whose first part is behind by so many clock units.
 pub(crate) fn idle_kept(behind: u128, first: &Kept, second: &Kept) -> Result<Kept, AllocError>
-    ensures { IfOk result (λ kept. kept ≡ raised (joined (kept_behind behind first.now) second.now)) }
+    ensures { IfOk result (λ kept. kept ≡ raised (joined (kept_behind behind first.now)
+        second.now)) }
 {
     let first = behind_kept(behind, first);
     let both = first.join(second)?;

@@ -35,7 +35,8 @@ pub(crate) fn take<L: Ledger>(
     left: Option<Key>,
     steps: &mut Steps<L>,
 ) -> Option<Taken>
-    ensures taken { MatchOption result (find nodes.old key ≡ None) (λ taken. IsTaken (find nodes.old)
+    ensures taken { MatchOption result (find nodes.old key ≡ None)
+        (λ taken. IsTaken (find nodes.old)
         (find nodes.new) key number left taken.head taken.kids) }
     ensures ticks { steps.new ≡ steps.old + 1 }
 {
@@ -59,7 +60,8 @@ pub(crate) fn write<L: Ledger>(
     kept: Kept,
     steps: &mut Steps<L>,
 )
-    ensures written { (find nodes.old key ≡ None → ⊥) → IsWritten (find nodes.old) (find nodes.new) key
+    ensures written { (find nodes.old key ≡ None → ⊥) →
+        IsWritten (find nodes.old) (find nodes.new) key
         head kids kept }
     ensures ticks { steps.new ≡ steps.old + 1 }
 {

@@ -25,7 +25,8 @@ pub(crate) fn plant_opened<L: Ledger>(
     requires { EndsInTime clock (term_view term) }
     ensures planted { IfOk result (λ out. Planted (find nodes.old) (find nodes.new) clock
         (term_view term) out) }
-    ensures gained { OnOk result (gained.new.items ≡ gained.old.items ++ frames_in (term_view term)) }
+    ensures gained { OnOk result (gained.new.items ≡
+        gained.old.items ++ frames_in (term_view term)) }
     ensures ticks { OnOk result (steps.new ≡ steps.old + nodes_of (term_view term)) }
 {
     list_frames(&term, gained)?;

@@ -87,7 +87,8 @@ fn outline_round<L: Ledger>(
     left: Outline,
     steps: &mut Steps<L>,
 ) -> Outline
-    ensures { HomeRoundRule (home_view home.now) (find nodes.now) (head_view head.now) kids.now number
+    ensures { HomeRoundRule (home_view home.now) (find nodes.now) (head_view head.now)
+        kids.now number
         left result steps.old steps.new }
 {
     match head {
@@ -118,7 +119,8 @@ fn outline_bare<L: Ledger>(
     part: Outline,
     steps: &mut Steps<L>,
 ) -> Outline
-    ensures { BareOutlineRule (home_view home.now) (find nodes.now) key place.now part result steps.old
+    ensures { BareOutlineRule (home_view home.now) (find nodes.now) key place.now part
+        result steps.old
         steps.new }
 {
     let Some((number, inner)) = place.split_first() else {
@@ -174,7 +176,8 @@ pub fn stays_low<L: Ledger>(
     limit: u32,
     steps: &mut Steps<L>,
 ) -> bool
-    ensures low { LowRule (home_view home.now) (find nodes.now) root place.now (term_view part.now) limit
+    ensures low { LowRule (home_view home.now) (find nodes.now) root place.now
+        (term_view part.now) limit
         result }
     ensures ticks { FewSteps (find nodes.now) root place.now steps.old steps.new }
 {

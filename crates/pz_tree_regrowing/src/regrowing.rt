@@ -158,7 +158,8 @@ fn regrow_bare<L: Ledger>(
     steps: &mut Steps<L>,
 ) -> Result<Option<Key>, AllocError>
     requires { EndsInTime spot.clock (term_view part) }
-    ensures { IfOk result (λ out. BareRegrowRule (home_view home.now) spot.key spot.frame.0 spot.clock
+    ensures { IfOk result (λ out. BareRegrowRule (home_view home.now) spot.key
+        spot.frame.0 spot.clock
         place.now (term_view part) out
         (at_work (find nodes.old) state.old (numbers lost.old.items) gained.old.items steps.old)
         (at_work (find nodes.new) state.new (numbers lost.new.items) gained.new.items steps.new)) }
@@ -248,7 +249,8 @@ pub fn regrow<L: Ledger>(
 ) -> Result<Option<Key>, AllocError>
     // Each delay of the part that has begun is over at a moment of 128 bits.
     requires { EndsInTime root.clock (term_view part) }
-    ensures regrown { IfOk result (λ out. RegrowRule (home_view home.now) root.key root.frame.0 root.clock
+    ensures regrown { IfOk result (λ out. RegrowRule (home_view home.now) root.key
+        root.frame.0 root.clock
         place.now (term_view part) out
         (at_work (find nodes.old) state.old (numbers lost.old.items) gained.old.items steps.old)
         (at_work (find nodes.new) state.new (numbers lost.new.items) gained.new.items steps.new)) }

@@ -69,7 +69,8 @@ pub(crate) fn put_shift<L: Ledger>(
     left: Option<Key>,
     steps: &mut Steps<L>,
 ) -> Option<Key>
-    ensures { ShiftRule (find nodes.old) (find nodes.new) key behind clock left result steps.old steps.new }
+    ensures { ShiftRule (find nodes.old) (find nodes.new) key behind clock left result
+        steps.old steps.new }
 {
     let Some(kid) = left else {
         release(nodes, key, steps);

@@ -40,7 +40,8 @@ pub fn passing(clock: u128) -> Spot<'static>
 // What an action is, in the words of its line.
 fn event<'a>(net: &'a Net, action: &'a Action) -> Event<'a>
     requires { HasProcesses net.now action.now }
-    ensures { (m : ModelTree) → ∥ IsNet m net.now ∥₁ → happening result ≡ happening_of m action.now }
+    ensures { (m : ModelTree) → ∥ IsNet m net.now ∥₁ →
+        happening result ≡ happening_of m action.now }
 {
     match action {
         Action::Internal { at, kind, .. } => Event::Internal {
