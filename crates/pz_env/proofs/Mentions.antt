@@ -9,8 +9,8 @@ use Rattle.std.proofs.lemmas.Bool.{eqb-true, eq-eqb}
 use Rattle.std.proofs.lemmas.Slice.Eq.{bytes_eq-Decides}
 use Rattle.pz_env_script.specs.declared.entry.Entry.{Entry}
 use Rattle.pz_env_script.specs.Entries.{count_in}
-use Rattle.pz_env_rules.specs.Environment.{Line, lines_from}
-use Rattle.pz_env_rules.specs.Ends.{is_same_end, first_mentions}
+use Rattle.pz_env_tree.specs.pz_env_rules.Environment.{Line, lines_from}
+use Rattle.pz_env_tree.specs.pz_env_rules.Ends.{is_same_end, first_mentions}
 use Rattle.pz_env_tree.specs.Names.{end_number}
 use Rattle.pz_env_tree.specs.EnvironmentClass.{is_sent, is_same_way, is_same_message, first_messages}
 use Rattle.pz_env.specs.devices.Ends.{Named, is_named}

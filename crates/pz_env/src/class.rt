@@ -4,8 +4,8 @@ ghost use Rattle.std.specs.Prelude.{◌≡◌, ◌++◌, ◌∷◌, ◌<◌, ◌
 ghost use Rattle.pz_syntax.specs.Expressions.{none};
 ghost use Rattle.pz_syntax.specs.ClassView.{process_class_view, process_method_view, start_view};
 ghost use Rattle.pz_syntax.specs.StatementView as statement;
-ghost use Rattle.pz_env_rules.specs.Environment.{lines_of};
-ghost use Rattle.pz_env_rules.specs.Ends.{first_mentions};
+ghost use Rattle.pz_env_tree.specs.pz_env_rules.Environment.{lines_of};
+ghost use Rattle.pz_env_tree.specs.pz_env_rules.Ends.{first_mentions};
 ghost use Rattle.pz_env_tree.specs.Names.{port_of, method_name, variable_name, kind_name};
 ghost use Rattle.pz_env_tree.specs.EnvironmentClass.{environment_class, first_messages, message_of, named, statements};
 ghost use Rattle.pz_env.specs.devices.Ends.{ends_in, has_end, number_of, with_end, end_of_entry};

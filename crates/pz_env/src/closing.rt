@@ -4,8 +4,8 @@ ghost use Rattle.std.specs.Prelude.{◌≡◌, ◌++◌, ◌∷◌, ◌≤◌, �
 ghost use Rattle.std.specs.Option.{unwrap_or};
 ghost use Rattle.pz_syntax.specs.Classes.{process_class};
 ghost use Rattle.pz_syntax.specs.ClassView.{decl_view, model_view};
-ghost use Rattle.pz_env_rules.specs.Environment.{lines_of};
-ghost use Rattle.pz_env_rules.specs.Ends.{first_mentions};
+ghost use Rattle.pz_env_tree.specs.pz_env_rules.Environment.{lines_of};
+ghost use Rattle.pz_env_tree.specs.pz_env_rules.Ends.{first_mentions};
 ghost use Rattle.pz_env_tree.specs.EnvironmentClass.{environment_class};
 ghost use Rattle.pz_env_tree.specs.ClosedTree.{environment, channel_of, closed_system, closed_decl, closed_tree};
 ghost use Rattle.pz_classes.specs.devices.Rows.{AreClasses};

@@ -1,7 +1,7 @@
 // The first line of a driven run.
 
 ghost use Rattle.std.specs.Prelude.{◌≡◌, IfOk};
-ghost use Rattle.pz_env_rules.specs.Text as text;
+ghost use Rattle.pz_env_tree.specs.pz_env_rules.Text as text;
 
 use std::alloc::{AllocError, Global};
 

@@ -7,8 +7,8 @@ use Rattle.pz_trace.specs.declared.ending.Ending.TheVariants.{End, Deadlock, Sto
 use Rattle.pz_trace.specs.TraceText as trace
 use Rattle.pz_run_playing.specs.Endings as playing
 use Rattle.pz_run_playing.specs.RunText.{text_under}
-use Rattle.pz_env_rules.specs.Joining.{Driving}
-use Rattle.pz_env_rules.specs.Text.{drive_header, event_line}
+use Rattle.pz_env_tree.specs.pz_env_rules.Joining.{Driving}
+use Rattle.pz_env_tree.specs.pz_env_rules.Text.{drive_header, event_line}
 use Rattle.pz_env_mimics.specs.Environments.{HasEnvironment}
 use Rattle.pz_env_mimics.specs.Closing.{SameEvents}
 use Rattle.pz_env_mimics.specs.Laws.{EventLinesAreSame, EndLinesAreSame}

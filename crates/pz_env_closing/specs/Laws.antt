@@ -9,8 +9,8 @@ use Rattle.pz_run_playing.specs.RunText.{text_under}
 use Rattle.pz_run_playing.specs.Playing.{ChosenRun}
 use Rattle.pz_env_script.specs.declared.entry.Entry.{Entry}
 use Rattle.pz_env_script.specs.Scripts.{IsWritten}
-use Rattle.pz_env_rules.specs.Joining.{driving}
-use Rattle.pz_env_rules.specs.Text.{drive_header}
+use Rattle.pz_env_tree.specs.pz_env_rules.Joining.{driving}
+use Rattle.pz_env_tree.specs.pz_env_rules.Text.{drive_header}
 use Rattle.pz_env_tree.specs.ClosedTree.{closed_tree}
 use Rattle.pz_env_sound.specs.MayClose.{MayClose}
 use Rattle.pz_env_mimics.specs.Closing.{MayDrive}

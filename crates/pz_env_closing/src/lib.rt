@@ -6,3 +6,6 @@ mod closing;
 pub mod laws;
 
 pub use closing::close_checked;
+
+// What stands on this names these too, and so has them from here.
+pub use pz_env::{CloseError, drive_header};

@@ -19,7 +19,7 @@ use Rattle.pz_classes.specs.SoundSystem.{SystemFits, InnerFits}
 use Rattle.pz_bind.specs.Nest.{system_class, instances_at, channels_at}
 use Rattle.pz_bind.specs.Connections.{is_inner, names_inner}
 use Rattle.pz_env_script.specs.declared.entry.Entry.{Entry}
-use Rattle.pz_env_rules.specs.Environment.{Line, lines_from, lines_of}
+use Rattle.pz_env_tree.specs.pz_env_rules.Environment.{Line, lines_from, lines_of}
 use Rattle.pz_env_tree.specs.Names.{class_name, instance_name}
 use Rattle.pz_env_tree.specs.Refusals.{IsFull, has_class, has_instance, IsPort, IsBadEntry, no_port, IsFirstRefused, no_room, bad_entry}
 use Rattle.pz_env_grown.proofs.Elements.{first_in, later_in}

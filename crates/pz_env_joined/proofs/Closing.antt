@@ -14,9 +14,9 @@ use Rattle.pz_classes.specs.Tables.{class_names}
 use Rattle.pz_classes.specs.SoundSystem.{SystemFits}
 use Rattle.pz_classes_openings.specs.Methods.{declared_methods, methods}
 use Rattle.pz_bind.specs.Nest.{system_class, instances_in, channels_in, channels_at}
-use Rattle.pz_env_rules.specs.Environment.{Line}
-use Rattle.pz_env_rules.specs.Ends.{first_mentions, further_channels}
-use Rattle.pz_env_rules.specs.Joining.{with_channels, decl_with, joined}
+use Rattle.pz_env_tree.specs.pz_env_rules.Environment.{Line}
+use Rattle.pz_env_tree.specs.pz_env_rules.Ends.{first_mentions, further_channels}
+use Rattle.pz_env_tree.specs.pz_env_rules.Joining.{with_channels, decl_with, joined}
 use Rattle.pz_env_tree.specs.Names.{class_name}
 use Rattle.pz_env_tree.specs.EnvironmentClass.{environment_class}
 use Rattle.pz_env_tree.specs.ClosedTree.{environment, channel_of, closed_system, closed_decl, closed_by}

@@ -24,8 +24,8 @@ use Rattle.pz_bind.specs.Wires.{is_joined, ending, wires_at, wires}
 use Rattle.pz_rules.specs.declared.limits.Limits.{Limits}
 use Rattle.pz_trace.specs.Labels.{path_of, wire_of}
 use Rattle.pz_env_script.specs.declared.entry.Entry.{Entry}
-use Rattle.pz_env_rules.specs.Environment.{Line, lines_of}
-use Rattle.pz_env_rules.specs.Joining.{joined, driving}
+use Rattle.pz_env_tree.specs.pz_env_rules.Environment.{Line, lines_of}
+use Rattle.pz_env_tree.specs.pz_env_rules.Joining.{joined, driving}
 use Rattle.pz_env_tree.specs.Names.{method_name, variable_name, end_number}
 use Rattle.pz_env_tree.specs.EnvironmentClass.{first_place, named}
 use Rattle.pz_env_tree.specs.ClosedTree.{environment, closed_by}

@@ -25,8 +25,8 @@ use Rattle.pz_classes.specs.Starts.{own_start, start_call, own_call, init}
 use Rattle.pz_env_script.specs.declared.entry.Entry.{Entry}
 use Rattle.pz_env_script.specs.declared.entry.Transfer.{Transfer}
 use Rattle.pz_env_script.specs.declared.entry.Transfer.TheVariants.{Send, Receive}
-use Rattle.pz_env_rules.specs.Environment.{Line, at_line, lines_of}
-use Rattle.pz_env_rules.specs.Ends.{first_mentions, named_at}
+use Rattle.pz_env_tree.specs.pz_env_rules.Environment.{Line, at_line, lines_of}
+use Rattle.pz_env_tree.specs.pz_env_rules.Ends.{first_mentions, named_at}
 use Rattle.pz_env_tree.specs.Names.{method_name, variable_name, end_number, port_name}
 use Rattle.pz_env_tree.specs.Names as names
 use Rattle.pz_env_tree.specs.EnvironmentClass.{first_place, named, unless_none, environment_class}

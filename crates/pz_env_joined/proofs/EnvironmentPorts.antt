@@ -12,8 +12,8 @@ use Rattle.pz_classes.specs.Ancestors.{parent_of, parent, followed, ancestors}
 use Rattle.pz_classes.specs.Members.{own_variables, own_ports, from_root, variables, ports, spelled}
 use Rattle.pz_classes_code.specs.Places.{place_from, place_in}
 use Rattle.pz_env_script.specs.declared.entry.Entry.{Entry}
-use Rattle.pz_env_rules.specs.Environment.{Line, lines_from, lines_of}
-use Rattle.pz_env_rules.specs.Ends.{is_same_end, first_mentions}
+use Rattle.pz_env_tree.specs.pz_env_rules.Environment.{Line, lines_from, lines_of}
+use Rattle.pz_env_tree.specs.pz_env_rules.Ends.{is_same_end, first_mentions}
 use Rattle.pz_env_tree.specs.Names.{variable_name, end_number, port_name, port_of}
 use Rattle.pz_env_tree.specs.EnvironmentClass.{named, environment_class}
 use Rattle.pz_env_tree.specs.ClosedTree.{closed_by}

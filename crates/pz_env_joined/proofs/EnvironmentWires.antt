@@ -19,10 +19,10 @@ use Rattle.pz_bind.specs.Wires.{wires, HasWire}
 use Rattle.pz_rules.specs.declared.limits.Limits.{Limits}
 use Rattle.pz_rules.specs.Ports.{IsWire}
 use Rattle.pz_env_script.specs.declared.entry.Entry.{Entry}
-use Rattle.pz_env_rules.specs.Environment.{Line, lines_of}
-use Rattle.pz_env_rules.specs.Ends.{first_mentions}
-use Rattle.pz_env_rules.specs.Joining.{joined, driving}
-use Rattle.pz_env_rules.specs.Driven.{IsWireOf}
+use Rattle.pz_env_tree.specs.pz_env_rules.Environment.{Line, lines_of}
+use Rattle.pz_env_tree.specs.pz_env_rules.Ends.{first_mentions}
+use Rattle.pz_env_tree.specs.pz_env_rules.Joining.{joined, driving}
+use Rattle.pz_env_tree.specs.pz_env_rules.Driven.{IsWireOf}
 use Rattle.pz_env_tree.specs.Names.{class_name, instance_name, end_number, port_name, port_of}
 use Rattle.pz_env_tree.specs.ClosedTree.{environment, channel_of, closed_by}
 use Rattle.pz_env_tree.specs.Refusals.{IsFirstRefused}

@@ -21,9 +21,9 @@ use Rattle.pz_bind.specs.Names.{name_at}
 use Rattle.pz_bind.specs.Connections.{names_inner}
 use Rattle.pz_bind.specs.Wires.{wires}
 use Rattle.pz_env_script.specs.declared.entry.Entry.{Entry}
-use Rattle.pz_env_rules.specs.Environment.{Line}
-use Rattle.pz_env_rules.specs.Ends.{first_mentions, further_channels, channel_for}
-use Rattle.pz_env_rules.specs.Joining.{decl_with, joined}
+use Rattle.pz_env_tree.specs.pz_env_rules.Environment.{Line}
+use Rattle.pz_env_tree.specs.pz_env_rules.Ends.{first_mentions, further_channels, channel_for}
+use Rattle.pz_env_tree.specs.pz_env_rules.Joining.{decl_with, joined}
 use Rattle.pz_env_tree.specs.Names.{class_name, instance_name}
 use Rattle.pz_env_tree.specs.EnvironmentClass.{environment_class}
 use Rattle.pz_env_tree.specs.ClosedTree.{environment, channel_of, closed_decl, closed_by}

@@ -19,8 +19,8 @@ use Rattle.pz_rules.specs.Openable.{IsProcessClass}
 use Rattle.pz_rules.specs.Opening.{depth_of}
 use Rattle.pz_rules.specs.Ports.{IsWire}
 use Rattle.pz_env_script.specs.declared.entry.Entry.{Entry}
-use Rattle.pz_env_rules.specs.Environment.{Line, lines_of}
-use Rattle.pz_env_rules.specs.Joining.{joined}
+use Rattle.pz_env_tree.specs.pz_env_rules.Environment.{Line, lines_of}
+use Rattle.pz_env_tree.specs.pz_env_rules.Joining.{joined}
 use Rattle.pz_env_tree.specs.Names.{class_name}
 use Rattle.pz_env_tree.specs.ClosedTree.{environment, closed_by}
 use Rattle.pz_env_tree.specs.Refusals.{IsFirstRefused}

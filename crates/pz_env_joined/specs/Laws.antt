@@ -7,8 +7,8 @@ use Rattle.pz_classes_openings.specs.OpeningRules.{Opens}
 use Rattle.pz_rules.specs.declared.limits.Limits.{Limits}
 use Rattle.pz_env_script.specs.declared.entry.Entry.{Entry}
 use Rattle.pz_env_script.specs.Scripts.{IsWritten}
-use Rattle.pz_env_rules.specs.Environment.{lines_of}
-use Rattle.pz_env_rules.specs.Joining.{joined, driving}
+use Rattle.pz_env_tree.specs.pz_env_rules.Environment.{lines_of}
+use Rattle.pz_env_tree.specs.pz_env_rules.Joining.{joined, driving}
 use Rattle.pz_env_tree.specs.ClosedTree.{closed_tree}
 use Rattle.pz_env_same.specs.SameRules.{SameRules}
 use Rattle.pz_env_mimics.specs.Environments.{HasEnvironment}

@@ -8,9 +8,9 @@ use Rattle.pz_bind_levels.specs.Places.{Address}
 use Rattle.pz_bind.specs.Nest.{class_at, instances_at, processes}
 use Rattle.pz_bind.specs.Wires.{wires}
 use Rattle.pz_env_script.specs.declared.entry.Entry.{Entry}
-use Rattle.pz_env_rules.specs.Environment.{Line}
-use Rattle.pz_env_rules.specs.Ends.{first_mentions}
-use Rattle.pz_env_rules.specs.Joining.{joined}
+use Rattle.pz_env_tree.specs.pz_env_rules.Environment.{Line}
+use Rattle.pz_env_tree.specs.pz_env_rules.Ends.{first_mentions}
+use Rattle.pz_env_tree.specs.pz_env_rules.Joining.{joined}
 use Rattle.pz_env_tree.specs.Names.{class_name, variable_name, port_of}
 use Rattle.pz_env_tree.specs.EnvironmentClass.{named}
 use Rattle.pz_env_tree.specs.ClosedTree.{closed_by}

@@ -18,9 +18,9 @@ use Rattle.pz_rules.specs.Leaving.{settled}
 use Rattle.pz_rules.specs.Messages.{Hands, Takes}
 use Rattle.pz_rules.specs.Configurations.{Config}
 use Rattle.pz_rules.specs.Steps.{Deed, Acts}
-use Rattle.pz_env_rules.specs.Environment.{Line, at_line, Doing, waits, offers, begins}
-use Rattle.pz_env_rules.specs.Joining.{Driving}
-use Rattle.pz_env_rules.specs.Driven.{Driven, plain, Gives, Gets}
+use Rattle.pz_env_tree.specs.pz_env_rules.Environment.{Line, at_line, Doing, waits, offers, begins}
+use Rattle.pz_env_tree.specs.pz_env_rules.Joining.{Driving}
+use Rattle.pz_env_tree.specs.pz_env_rules.Driven.{Driven, plain, Gives, Gets}
 use Rattle.pz_env_mimics.specs.Environments.{exchange}
 use Rattle.pz_env_mimics.specs.Closing.{Closes, closed}
 use Rattle.pz_env_mimics.proofs.Known.{Known}

@@ -8,10 +8,10 @@ use Rattle.pz_offer.specs.declared.trouble.Trouble.{Trouble}
 use Rattle.pz_rules.specs.declared.action.Action.{Action}
 use Rattle.pz_rules.specs.Configurations.{Config}
 use Rattle.pz_rules.specs.Runs.{acted, passed, IsChoice}
-use Rattle.pz_env_rules.specs.Joining.{Driving}
-use Rattle.pz_env_rules.specs.Driven.{Driven}
-use Rattle.pz_env_rules.specs.Offers.{DrivenOffers}
-use Rattle.pz_env_rules.specs.Runs.{IsDrivenChoice}
+use Rattle.pz_env_tree.specs.pz_env_rules.Joining.{Driving}
+use Rattle.pz_env_tree.specs.pz_env_rules.Driven.{Driven}
+use Rattle.pz_env_tree.specs.pz_env_rules.Offers.{DrivenOffers}
+use Rattle.pz_env_tree.specs.pz_env_rules.Runs.{IsDrivenChoice}
 use Rattle.pz_env_mimics.specs.Closing as closing
 use Rattle.pz_env_mimics.specs.Closing.{Closes, closed, SameEnd, SameAction, SameEvent, SameEvents}
 use Rattle.pz_env_mimics.proofs.Known.{Known}

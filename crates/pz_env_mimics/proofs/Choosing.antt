@@ -7,11 +7,11 @@ use Rattle.pz_rules.specs.Steps.{Next}
 use Rattle.pz_rules.specs.Runs.{Event, acted, passed, Ending}
 use Rattle.pz_rules.specs.ChosenRuns as chosen
 use Rattle.pz_rules.specs.ChosenRuns.{Policy, Decision, decided, stops_with, takes, waits, IsChosenRun}
-use Rattle.pz_env_rules.specs.Joining.{Driving}
-use Rattle.pz_env_rules.specs.Driven.{Driven}
-use Rattle.pz_env_rules.specs.Steps.{DrivenNext}
-use Rattle.pz_env_rules.specs.ChosenRuns as driven_chosen
-use Rattle.pz_env_rules.specs.ChosenRuns.{IsChosenDrivenRun}
+use Rattle.pz_env_tree.specs.pz_env_rules.Joining.{Driving}
+use Rattle.pz_env_tree.specs.pz_env_rules.Driven.{Driven}
+use Rattle.pz_env_tree.specs.pz_env_rules.Steps.{DrivenNext}
+use Rattle.pz_env_tree.specs.pz_env_rules.ChosenRuns as driven_chosen
+use Rattle.pz_env_tree.specs.pz_env_rules.ChosenRuns.{IsChosenDrivenRun}
 use Rattle.pz_env_mimics.specs.Closing.{Closes, closed, SameEvents}
 use Rattle.pz_env_mimics.proofs.Known.{Known}
 use Rattle.pz_env_mimics.proofs.Mimics.{Mimics}

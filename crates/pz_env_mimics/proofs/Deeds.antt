@@ -22,8 +22,8 @@ use Rattle.pz_rules.specs.Messages.{Fits, bound, Hands, Takes}
 use Rattle.pz_env_script.specs.declared.entry.Transfer.{Transfer}
 use Rattle.pz_env_script.specs.declared.entry.Transfer.TheVariants.{Send, Receive}
 use Rattle.pz_env_script.specs.Entries.{values_in}
-use Rattle.pz_env_rules.specs.Environment.{Line, at_line}
-use Rattle.pz_env_rules.specs.Ends.{named_at}
+use Rattle.pz_env_tree.specs.pz_env_rules.Environment.{Line, at_line}
+use Rattle.pz_env_tree.specs.pz_env_rules.Ends.{named_at}
 use Rattle.pz_env_tree.specs.EnvironmentClass.{unless_none}
 use Rattle.pz_env_mimics.specs.Environments.{exchange, arguments}
 use Rattle.pz_env_mimics.proofs.Literals.{IsConstant, arguments_given, arguments_only, arguments_only_spent}

@@ -8,7 +8,7 @@ use Rattle.pz_rules.specs.Delays as delays
 use Rattle.pz_rules.specs.Delays.{Passes}
 use Rattle.pz_env_script.specs.declared.entry.Transfer.{Transfer}
 use Rattle.pz_env_script.specs.declared.entry.Transfer.TheVariants.{Send, Receive}
-use Rattle.pz_env_rules.specs.Environment.{Line, at_line, wait_of, Doing, offers, later}
+use Rattle.pz_env_tree.specs.pz_env_rules.Environment.{Line, at_line, wait_of, Doing, offers, later}
 use Rattle.pz_env_mimics.specs.Environments.{exchange, statements, IsPlain}
 use Rattle.pz_env_mimics.specs.Closing.{MayDrive}
 use Rattle.pz_env_mimics.proofs.Environment.{IsWaiting, not_begun, begun, behind, offering, called, IsDoing, finished, waiting_for, offering_it}

@@ -5,7 +5,7 @@ use Rattle.pz_offer.specs.PlaceOrder.{Place}
 use Rattle.pz_rules.specs.Terms.{Steps, Term, done, leaf, wait, sequence, frame, first_or}
 use Rattle.pz_rules.specs.Settings.{Context}
 use Rattle.pz_rules.specs.Active.{Reached, Active, IsActive, here, inside}
-use Rattle.pz_env_rules.specs.Environment.{Line, at_line, wait_of, Doing, over, waits, offers}
+use Rattle.pz_env_tree.specs.pz_env_rules.Environment.{Line, at_line, wait_of, Doing, over, waits, offers}
 use Rattle.pz_env_mimics.specs.Environments.{exchange, waiting, statements}
 
 -- the delay of a line, of which so much is left

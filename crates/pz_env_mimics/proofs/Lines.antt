@@ -24,10 +24,10 @@ use Rattle.pz_trace.specs.Lines as trace
 use Rattle.pz_trace.specs.Lines.{newline}
 use Rattle.pz_trace.specs.TraceText as trace_text
 use Rattle.pz_trace.specs.TraceText.{events_text}
-use Rattle.pz_env_rules.specs.Joining.{Driving}
-use Rattle.pz_env_rules.specs.Driven.{environment_number}
-use Rattle.pz_env_rules.specs.Text as text
-use Rattle.pz_env_rules.specs.Text.{path_in}
+use Rattle.pz_env_tree.specs.pz_env_rules.Joining.{Driving}
+use Rattle.pz_env_tree.specs.pz_env_rules.Driven.{environment_number}
+use Rattle.pz_env_tree.specs.pz_env_rules.Text as text
+use Rattle.pz_env_tree.specs.pz_env_rules.Text.{path_in}
 use Rattle.pz_env_mimics.specs.Environments.{HasEnvironment}
 use Rattle.pz_env_mimics.specs.Closing as closing
 use Rattle.pz_env_mimics.specs.Closing.{SameEnd, SameAction, SameEvent, SameEvents}

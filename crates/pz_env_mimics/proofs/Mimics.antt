@@ -13,9 +13,9 @@ use Rattle.pz_rules.specs.Active.{IsActive}
 use Rattle.pz_rules.specs.Ports.{IsWire}
 use Rattle.pz_rules.specs.Configurations.{Config, Stands}
 use Rattle.pz_rules.specs.Offers.{PartAt}
-use Rattle.pz_env_rules.specs.Environment.{Line}
-use Rattle.pz_env_rules.specs.Joining.{Driving}
-use Rattle.pz_env_rules.specs.Driven.{Driven, environment_number, IsWireOf}
+use Rattle.pz_env_tree.specs.pz_env_rules.Environment.{Line}
+use Rattle.pz_env_tree.specs.pz_env_rules.Joining.{Driving}
+use Rattle.pz_env_tree.specs.pz_env_rules.Driven.{Driven, environment_number, IsWireOf}
 use Rattle.pz_env_same.specs.OneMore.{OneMore}
 use Rattle.pz_env_mimics.specs.Environments.{IsPlain}
 use Rattle.pz_env_mimics.specs.Closing.{Closes, closed}

@@ -16,11 +16,11 @@ use Rattle.pz_rules.specs.Configurations.{Config}
 use Rattle.pz_rules.specs.Offers.{PartAt}
 use Rattle.pz_rules.specs.Moments as system
 use Rattle.pz_rules.specs.Moments.{IsFirstHigh, Source, part, pair, Troubles, IsLeastTrouble, IsLeft, IsLeast, AllDone, Candidate, rank, IsMoment}
-use Rattle.pz_env_rules.specs.Environment.{Line, at_line, Doing, over}
-use Rattle.pz_env_rules.specs.Joining.{Driving}
-use Rattle.pz_env_rules.specs.Driven.{Driven, environment_end}
-use Rattle.pz_env_rules.specs.Moments as driven
-use Rattle.pz_env_rules.specs.Moments.{DrivenTroubles, spent, IsLeastDrivenTrouble, IsDrivenLeft, IsLeastDriven, AllOver, DrivenCandidate, IsDrivenMoment}
+use Rattle.pz_env_tree.specs.pz_env_rules.Environment.{Line, at_line, Doing, over}
+use Rattle.pz_env_tree.specs.pz_env_rules.Joining.{Driving}
+use Rattle.pz_env_tree.specs.pz_env_rules.Driven.{Driven, environment_end}
+use Rattle.pz_env_tree.specs.pz_env_rules.Moments as driven
+use Rattle.pz_env_tree.specs.pz_env_rules.Moments.{DrivenTroubles, spent, IsLeastDrivenTrouble, IsDrivenLeft, IsLeastDriven, AllOver, DrivenCandidate, IsDrivenMoment}
 use Rattle.pz_env_mimics.specs.Environments.{exchange, IsPlain}
 use Rattle.pz_env_mimics.specs.Closing.{Closes, closed}
 use Rattle.pz_env_mimics.proofs.Known.{Known}

@@ -20,12 +20,12 @@ use Rattle.pz_rules.specs.Offers as offered
 use Rattle.pz_rules.specs.Offers.{PartAt, Offers}
 use Rattle.pz_rules.specs.Steps as system
 use Rattle.pz_rules.specs.Steps.{Deed, Acts, with_process, with_both, Next, PassesTo}
-use Rattle.pz_env_rules.specs.Environment.{Line, at_line, waits, offers, begins}
-use Rattle.pz_env_rules.specs.Joining.{Driving}
-use Rattle.pz_env_rules.specs.Driven.{Driven, environment_end, plain, Gives, Gets, stored}
-use Rattle.pz_env_rules.specs.Offers.{IsDrivenPair, of_processes, to_system, from_system, DrivenOffers, acts, expires, communicates}
-use Rattle.pz_env_rules.specs.Steps as driven
-use Rattle.pz_env_rules.specs.Steps.{in_system, doing_next, both_next, DrivenNext, DrivenPasses}
+use Rattle.pz_env_tree.specs.pz_env_rules.Environment.{Line, at_line, waits, offers, begins}
+use Rattle.pz_env_tree.specs.pz_env_rules.Joining.{Driving}
+use Rattle.pz_env_tree.specs.pz_env_rules.Driven.{Driven, environment_end, plain, Gives, Gets, stored}
+use Rattle.pz_env_tree.specs.pz_env_rules.Offers.{IsDrivenPair, of_processes, to_system, from_system, DrivenOffers, acts, expires, communicates}
+use Rattle.pz_env_tree.specs.pz_env_rules.Steps as driven
+use Rattle.pz_env_tree.specs.pz_env_rules.Steps.{in_system, doing_next, both_next, DrivenNext, DrivenPasses}
 use Rattle.pz_env_same.specs.OneMore.{result_behind, IsActionOf}
 use Rattle.pz_env_mimics.specs.Closing.{Closes, closed}
 use Rattle.pz_env_mimics.proofs.Known.{Known}

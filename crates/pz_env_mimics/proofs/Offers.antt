@@ -19,10 +19,10 @@ use Rattle.pz_rules.specs.Messages.{Judges}
 use Rattle.pz_rules.specs.Configurations.{Config}
 use Rattle.pz_rules.specs.Offers as system
 use Rattle.pz_rules.specs.Offers.{PartAt, IsPair, IsJudged, Offers, IsOffers}
-use Rattle.pz_env_rules.specs.Environment.{Line, at_line, Doing}
-use Rattle.pz_env_rules.specs.Joining.{Driving}
-use Rattle.pz_env_rules.specs.Driven.{Driven, environment_end}
-use Rattle.pz_env_rules.specs.Offers.{IsDrivenPair, of_processes, to_system, from_system, IsDrivenJudged, by_process, by_environment, DrivenOffers, acts, expires, communicates, IsDrivenOffers}
+use Rattle.pz_env_tree.specs.pz_env_rules.Environment.{Line, at_line, Doing}
+use Rattle.pz_env_tree.specs.pz_env_rules.Joining.{Driving}
+use Rattle.pz_env_tree.specs.pz_env_rules.Driven.{Driven, environment_end}
+use Rattle.pz_env_tree.specs.pz_env_rules.Offers.{IsDrivenPair, of_processes, to_system, from_system, IsDrivenJudged, by_process, by_environment, DrivenOffers, acts, expires, communicates, IsDrivenOffers}
 use Rattle.pz_env_mimics.specs.Environments.{exchange}
 use Rattle.pz_env_mimics.specs.Closing.{Closes, closed}
 use Rattle.pz_env_mimics.proofs.Known.{Known}

@@ -15,10 +15,10 @@ use Rattle.pz_rules.specs.Meanings.{and_then, fault}
 use Rattle.pz_rules.specs.Messages.{Fits}
 use Rattle.pz_rules.specs.Configurations.{Config, IsWhole}
 use Rattle.pz_rules.specs.Steps.{with_process, with_both, Next}
-use Rattle.pz_env_rules.specs.Environment.{Line, at_line, Doing, offers, begins}
-use Rattle.pz_env_rules.specs.Joining.{Driving}
-use Rattle.pz_env_rules.specs.Driven.{Driven, stored}
-use Rattle.pz_env_rules.specs.Steps.{in_system, doing_next, both_next}
+use Rattle.pz_env_tree.specs.pz_env_rules.Environment.{Line, at_line, Doing, offers, begins}
+use Rattle.pz_env_tree.specs.pz_env_rules.Joining.{Driving}
+use Rattle.pz_env_tree.specs.pz_env_rules.Driven.{Driven, stored}
+use Rattle.pz_env_tree.specs.pz_env_rules.Steps.{in_system, doing_next, both_next}
 use Rattle.pz_env_same.specs.OneMore.{behind, result_behind}
 use Rattle.pz_env_mimics.specs.Closing.{Closes}
 use Rattle.pz_env_mimics.proofs.Known.{Known}

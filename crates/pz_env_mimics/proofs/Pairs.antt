@@ -11,10 +11,10 @@ use Rattle.pz_rules.specs.Messages.{Sends}
 use Rattle.pz_rules.specs.Ports.{IsWire}
 use Rattle.pz_rules.specs.Configurations.{Config}
 use Rattle.pz_rules.specs.Offers.{IsPair}
-use Rattle.pz_env_rules.specs.Environment.{Line, at_line}
-use Rattle.pz_env_rules.specs.Joining.{Driving}
-use Rattle.pz_env_rules.specs.Driven.{Driven, environment_end, IsWireOf}
-use Rattle.pz_env_rules.specs.Offers.{Hears, Says, IsDrivenPair, of_processes, to_system, from_system}
+use Rattle.pz_env_tree.specs.pz_env_rules.Environment.{Line, at_line}
+use Rattle.pz_env_tree.specs.pz_env_rules.Joining.{Driving}
+use Rattle.pz_env_tree.specs.pz_env_rules.Driven.{Driven, environment_end, IsWireOf}
+use Rattle.pz_env_tree.specs.pz_env_rules.Offers.{Hears, Says, IsDrivenPair, of_processes, to_system, from_system}
 use Rattle.pz_env_same.specs.SameRules.{seen_in}
 use Rattle.pz_env_mimics.specs.Environments.{exchange}
 use Rattle.pz_env_mimics.specs.Closing.{Closes, closed}

@@ -12,9 +12,9 @@ use Rattle.pz_rules.specs.Active.{IsActive}
 use Rattle.pz_rules.specs.Messages.{Sends}
 use Rattle.pz_rules.specs.Configurations.{Config}
 use Rattle.pz_rules.specs.Offers.{PartAt}
-use Rattle.pz_env_rules.specs.Environment.{Line, Doing, offers}
-use Rattle.pz_env_rules.specs.Joining.{Driving}
-use Rattle.pz_env_rules.specs.Driven.{Driven}
+use Rattle.pz_env_tree.specs.pz_env_rules.Environment.{Line, Doing, offers}
+use Rattle.pz_env_tree.specs.pz_env_rules.Joining.{Driving}
+use Rattle.pz_env_tree.specs.pz_env_rules.Driven.{Driven}
 use Rattle.pz_env_same.specs.SameRules.{in_model, seen_in}
 use Rattle.pz_env_mimics.specs.Environments.{exchange, IsPlain}
 use Rattle.pz_env_mimics.specs.Closing.{Closes, closed}

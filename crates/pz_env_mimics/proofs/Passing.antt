@@ -10,10 +10,10 @@ use Rattle.pz_rules.specs.Settings.{Context, left_by}
 use Rattle.pz_rules.specs.Delays.{Passes}
 use Rattle.pz_rules.specs.Configurations.{Config, Stands, IsWhole}
 use Rattle.pz_rules.specs.Steps.{PassesTo}
-use Rattle.pz_env_rules.specs.Environment.{Line, later, Environment}
-use Rattle.pz_env_rules.specs.Joining.{Driving}
-use Rattle.pz_env_rules.specs.Driven.{Driven}
-use Rattle.pz_env_rules.specs.Steps.{DrivenPasses}
+use Rattle.pz_env_tree.specs.pz_env_rules.Environment.{Line, later, Environment}
+use Rattle.pz_env_tree.specs.pz_env_rules.Joining.{Driving}
+use Rattle.pz_env_tree.specs.pz_env_rules.Driven.{Driven}
+use Rattle.pz_env_tree.specs.pz_env_rules.Steps.{DrivenPasses}
 use Rattle.pz_env_same.specs.OneMore.{behind}
 use Rattle.pz_env_tree.specs.EnvironmentClass.{first_place}
 use Rattle.pz_env_mimics.specs.Closing.{Closes, closed}

@@ -8,12 +8,12 @@ use Rattle.pz_rules.specs.Steps.{Next}
 use Rattle.pz_rules.specs.Moments.{IsMoment}
 use Rattle.pz_rules.specs.Runs as runs
 use Rattle.pz_rules.specs.Runs.{Event, acted, passed, IsChoice, Standing, whole, stopped, Reaches, Ending, Ends}
-use Rattle.pz_env_rules.specs.Joining.{Driving}
-use Rattle.pz_env_rules.specs.Driven.{Driven}
-use Rattle.pz_env_rules.specs.Moments.{IsDrivenMoment}
-use Rattle.pz_env_rules.specs.Steps.{DrivenNext}
-use Rattle.pz_env_rules.specs.Runs as driven_runs
-use Rattle.pz_env_rules.specs.Runs.{IsDrivenChoice, DrivenReaches, DrivenEnds}
+use Rattle.pz_env_tree.specs.pz_env_rules.Joining.{Driving}
+use Rattle.pz_env_tree.specs.pz_env_rules.Driven.{Driven}
+use Rattle.pz_env_tree.specs.pz_env_rules.Moments.{IsDrivenMoment}
+use Rattle.pz_env_tree.specs.pz_env_rules.Steps.{DrivenNext}
+use Rattle.pz_env_tree.specs.pz_env_rules.Runs as driven_runs
+use Rattle.pz_env_tree.specs.pz_env_rules.Runs.{IsDrivenChoice, DrivenReaches, DrivenEnds}
 use Rattle.pz_env_mimics.specs.Closing.{Closes, closed, SameEvents}
 use Rattle.pz_env_mimics.proofs.Known.{Known}
 use Rattle.pz_env_mimics.proofs.Mimics as mimics

@@ -12,7 +12,7 @@ use Rattle.pz_rules.specs.Leaving.{around, residual, swept, not_too_high, settle
 use Rattle.pz_rules.specs.InternalActions.{done_in}
 use Rattle.pz_env_script.specs.declared.entry.Transfer.{Transfer}
 use Rattle.pz_env_script.specs.declared.entry.Transfer.TheVariants.{Send, Receive}
-use Rattle.pz_env_rules.specs.Environment.{Line, wait_of, offers, begins}
+use Rattle.pz_env_tree.specs.pz_env_rules.Environment.{Line, wait_of, offers, begins}
 use Rattle.pz_env_mimics.specs.Environments.{exchange, waiting, statements}
 use Rattle.pz_env_mimics.proofs.Environment.{not_begun, behind, offering, called, IsDoing, finished, waiting_for, place_of}
 

@@ -26,8 +26,8 @@ use Rattle.pz_rules.specs.Delays.{Delays}
 use Rattle.pz_env_script.specs.declared.entry.Transfer.{Transfer}
 use Rattle.pz_env_script.specs.declared.entry.Transfer.TheVariants.{Send, Receive}
 use Rattle.pz_env_script.specs.Entries.{values_in}
-use Rattle.pz_env_rules.specs.Environment.{Line, at_line, wait_of}
-use Rattle.pz_env_rules.specs.Ends.{named_at}
+use Rattle.pz_env_tree.specs.pz_env_rules.Environment.{Line, at_line, wait_of}
+use Rattle.pz_env_tree.specs.pz_env_rules.Ends.{named_at}
 use Rattle.pz_env_tree.specs.EnvironmentClass.{unless_none}
 use Rattle.pz_env_mimics.specs.Environments.{exchange, arguments, IsPlain}
 use Rattle.pz_env_mimics.specs.Closing.{MayDrive}

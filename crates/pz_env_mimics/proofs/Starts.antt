@@ -17,9 +17,9 @@ use Rattle.pz_rules.specs.FrameNumbers.{least_free}
 use Rattle.pz_rules.specs.Leaving.{swept}
 use Rattle.pz_rules.specs.Configurations.{Config}
 use Rattle.pz_rules.specs.Starting.{home_at, begins_with, StartsAs, IsStart}
-use Rattle.pz_env_rules.specs.Environment.{Line, begins, Environment}
-use Rattle.pz_env_rules.specs.Joining.{Driving}
-use Rattle.pz_env_rules.specs.Driven.{Driven, IsDrivenStart}
+use Rattle.pz_env_tree.specs.pz_env_rules.Environment.{Line, begins, Environment}
+use Rattle.pz_env_tree.specs.pz_env_rules.Joining.{Driving}
+use Rattle.pz_env_tree.specs.pz_env_rules.Driven.{Driven, IsDrivenStart}
 use Rattle.pz_env_same.specs.OneMore.{OneMore, behind}
 use Rattle.pz_env_same.specs.SystemLaws.{MoreStarts}
 use Rattle.pz_env_mimics.specs.Environments.{statements, waiting}

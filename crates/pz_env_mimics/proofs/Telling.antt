@@ -8,11 +8,11 @@ use Rattle.pz_rules.specs.ChosenRuns.{Policy, IsChosenRun}
 use Rattle.pz_trace.specs.declared.ending.Ending.{Ending}
 use Rattle.pz_trace.specs.Lines as trace
 use Rattle.pz_trace.specs.TraceText.{run_ending, events_text}
-use Rattle.pz_env_rules.specs.Joining.{Driving}
-use Rattle.pz_env_rules.specs.Driven.{Driven, IsDrivenStart}
-use Rattle.pz_env_rules.specs.Runs.{DrivenReaches}
-use Rattle.pz_env_rules.specs.ChosenRuns.{IsChosenDrivenRun}
-use Rattle.pz_env_rules.specs.Text.{drive_header, drive_text, end_line, IsDriveText}
+use Rattle.pz_env_tree.specs.pz_env_rules.Joining.{Driving}
+use Rattle.pz_env_tree.specs.pz_env_rules.Driven.{Driven, IsDrivenStart}
+use Rattle.pz_env_tree.specs.pz_env_rules.Runs.{DrivenReaches}
+use Rattle.pz_env_tree.specs.pz_env_rules.ChosenRuns.{IsChosenDrivenRun}
+use Rattle.pz_env_tree.specs.pz_env_rules.Text.{drive_header, drive_text, end_line, IsDriveText}
 use Rattle.pz_env_mimics.specs.Closing.{Closes, closed, SameEvents}
 use Rattle.pz_env_mimics.specs.Laws.{ClosedRun, DrivenRun, ChosenClosedRun, ChosenDrivenRun, IsClosedText}
 use Rattle.pz_env_mimics.proofs.Known.{Known}

@@ -8,7 +8,7 @@ use Rattle.pz_env_script.specs.declared.entry.Transfer.{Transfer}
 use Rattle.pz_env_script.specs.Literals.{IsLiteral, nothing, truth, falsehood, number, negative, AreLiterals, none, more}
 use Rattle.pz_env_script.specs.Entries.{IsTransfer, sends, receives, IsEntry, values_in}
 use Rattle.pz_env_script.specs.Scripts.{AreEntries, IsWritten}
-use Rattle.pz_env_rules.specs.Environment.{Line, lines_from, lines_of}
+use Rattle.pz_env_tree.specs.pz_env_rules.Environment.{Line, lines_from, lines_of}
 use Rattle.pz_env_mimics.specs.Environments.{IsPlain, ArePlain}
 use Rattle.pz_env_mimics.proofs.Literals.{IsConstant}
 

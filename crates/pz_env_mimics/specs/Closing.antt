@@ -13,8 +13,8 @@ use Rattle.pz_rules.specs.declared.action.Action.TheVariants.{Internal, Comm}
 use Rattle.pz_rules.specs.Settings.{Setting}
 use Rattle.pz_rules.specs.Runs as runs
 use Rattle.pz_rules.specs.Runs.{Event}
-use Rattle.pz_env_rules.specs.Joining.{Driving}
-use Rattle.pz_env_rules.specs.Driven.{environment_number}
+use Rattle.pz_env_tree.specs.pz_env_rules.Joining.{Driving}
+use Rattle.pz_env_tree.specs.pz_env_rules.Driven.{environment_number}
 use Rattle.pz_env_same.specs.SameRules.{SameRules, in_model}
 use Rattle.pz_env_mimics.specs.Environments.{ArePlain, HasEnvironment}
 

@@ -28,10 +28,10 @@ use Rattle.pz_trace.specs.Labels.{path_of, wire_of}
 use Rattle.pz_env_script.specs.declared.entry.Transfer.{Transfer}
 use Rattle.pz_env_script.specs.declared.entry.Transfer.TheVariants.{Send, Receive}
 use Rattle.pz_env_script.specs.Entries.{values_in}
-use Rattle.pz_env_rules.specs.Environment.{Line, at_line, wait_of}
-use Rattle.pz_env_rules.specs.Ends.{named_at}
-use Rattle.pz_env_rules.specs.Joining.{Driving}
-use Rattle.pz_env_rules.specs.Driven.{environment_number, IsWireOf}
+use Rattle.pz_env_tree.specs.pz_env_rules.Environment.{Line, at_line, wait_of}
+use Rattle.pz_env_tree.specs.pz_env_rules.Ends.{named_at}
+use Rattle.pz_env_tree.specs.pz_env_rules.Joining.{Driving}
+use Rattle.pz_env_tree.specs.pz_env_rules.Driven.{environment_number, IsWireOf}
 use Rattle.pz_env_tree.specs.EnvironmentClass.{literal_of, unless_none}
 
 -- Statements with numbers in place of names, two for each line, where the port of a line has this number.

@@ -14,13 +14,13 @@ use Rattle.pz_trace.specs.TraceText as trace_text
 use Rattle.pz_trace.specs.TraceText.{run_ending, events_text}
 use Rattle.pz_env_script.specs.declared.entry.Entry.{Entry}
 use Rattle.pz_env_script.specs.Scripts.{IsWritten}
-use Rattle.pz_env_rules.specs.Environment.{lines_of}
-use Rattle.pz_env_rules.specs.Joining.{Driving}
-use Rattle.pz_env_rules.specs.Driven.{Driven, IsDrivenStart}
-use Rattle.pz_env_rules.specs.Moments.{IsDrivenMoment}
-use Rattle.pz_env_rules.specs.Runs.{DrivenReaches, DrivenEnds}
-use Rattle.pz_env_rules.specs.ChosenRuns.{IsChosenDrivenRun}
-use Rattle.pz_env_rules.specs.Text.{drive_header, event_line, end_line, IsDriveText}
+use Rattle.pz_env_tree.specs.pz_env_rules.Environment.{lines_of}
+use Rattle.pz_env_tree.specs.pz_env_rules.Joining.{Driving}
+use Rattle.pz_env_tree.specs.pz_env_rules.Driven.{Driven, IsDrivenStart}
+use Rattle.pz_env_tree.specs.pz_env_rules.Moments.{IsDrivenMoment}
+use Rattle.pz_env_tree.specs.pz_env_rules.Runs.{DrivenReaches, DrivenEnds}
+use Rattle.pz_env_tree.specs.pz_env_rules.ChosenRuns.{IsChosenDrivenRun}
+use Rattle.pz_env_tree.specs.pz_env_rules.Text.{drive_header, event_line, end_line, IsDriveText}
 use Rattle.pz_env_mimics.specs.Environments.{ArePlain, HasEnvironment}
 use Rattle.pz_env_mimics.specs.Closing.{Closes, closed, SameEvent, SameEvents}
 

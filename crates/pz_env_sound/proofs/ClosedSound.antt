@@ -12,7 +12,7 @@ use Rattle.pz_classes_openings.specs.OpeningRules.{Opens}
 use Rattle.pz_env_script.specs.declared.entry.Entry.{Entry}
 use Rattle.pz_env_script.specs.declared.entry.Transfer.{Transfer}
 use Rattle.pz_env_script.specs.declared.entry.Transfer.TheVariants.{Send, Receive}
-use Rattle.pz_env_rules.specs.Environment.{Line, lines_of}
+use Rattle.pz_env_tree.specs.pz_env_rules.Environment.{Line, lines_of}
 use Rattle.pz_env_tree.specs.EnvironmentClass.{exchange, statements, method_of, environment_class}
 use Rattle.pz_env_tree.specs.ClosedTree.{environment, closed_system, closed_tree}
 use Rattle.pz_env_grown.proofs.Elements.{first_in}

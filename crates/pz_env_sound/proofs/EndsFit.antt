@@ -21,8 +21,8 @@ use Rattle.pz_classes.specs.SoundSystem.{SoundSystemsFit, SystemFits, PartsFit}
 use Rattle.pz_classes.specs.Soundness.{IsSound}
 use Rattle.pz_bind.specs.Nest.{class_of}
 use Rattle.pz_env_script.specs.declared.entry.Entry.{Entry}
-use Rattle.pz_env_rules.specs.Environment.{Line, lines_of}
-use Rattle.pz_env_rules.specs.Ends.{first_mentions}
+use Rattle.pz_env_tree.specs.pz_env_rules.Environment.{Line, lines_of}
+use Rattle.pz_env_tree.specs.pz_env_rules.Ends.{first_mentions}
 use Rattle.pz_env_tree.specs.Names.{instance_name, port_of}
 use Rattle.pz_env_tree.specs.EnvironmentClass.{environment_class}
 use Rattle.pz_env_tree.specs.ClosedTree.{environment, closed_system}

@@ -20,8 +20,8 @@ use Rattle.pz_classes.specs.Soundness.{IsSound}
 use Rattle.pz_bind.specs.Nest.{channels_at}
 use Rattle.pz_bind.specs.Connections.{is_inner, names_inner}
 use Rattle.pz_env_script.specs.declared.entry.Entry.{Entry}
-use Rattle.pz_env_rules.specs.Environment.{Line, lines_of}
-use Rattle.pz_env_rules.specs.Ends.{first_mentions}
+use Rattle.pz_env_tree.specs.pz_env_rules.Environment.{Line, lines_of}
+use Rattle.pz_env_tree.specs.pz_env_rules.Ends.{first_mentions}
 use Rattle.pz_env_tree.specs.Names.{instance_name}
 use Rattle.pz_env_tree.specs.EnvironmentClass.{environment_class}
 use Rattle.pz_env_tree.specs.ClosedTree.{environment, channel_of, closed_system}

@@ -18,8 +18,8 @@ use Rattle.pz_value.specs.declared.value.Value.TheVariants as value
 use Rattle.pz_env_script.specs.declared.entry.Transfer.{Transfer}
 use Rattle.pz_env_script.specs.declared.entry.Transfer.TheVariants.{Send, Receive}
 use Rattle.pz_env_script.specs.Entries.{count_in}
-use Rattle.pz_env_rules.specs.Environment.{Line, at_line}
-use Rattle.pz_env_rules.specs.Ends.{named_at}
+use Rattle.pz_env_tree.specs.pz_env_rules.Environment.{Line, at_line}
+use Rattle.pz_env_tree.specs.pz_env_rules.Ends.{named_at}
 use Rattle.pz_env_tree.specs.Names.{class_name, method_name, variable_name, kind_name, port_of}
 use Rattle.pz_env_tree.specs.EnvironmentClass.{named, is_sent, first_messages, unless_none, message_of, literal_of, literals, arguments, exchange, statements, method_of, environment_class}
 use Rattle.pz_env_grown.proofs.Elements.{none_in, first_in, later_in, in_cases}

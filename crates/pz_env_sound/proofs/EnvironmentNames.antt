@@ -14,8 +14,8 @@ use Rattle.pz_classes_mentions.specs.declared.local_scope.LocalScope.{LocalScope
 use Rattle.pz_classes_mentions.specs.Declarations.{parts, process_head, process_method}
 use Rattle.pz_classes.specs.RepeatRules.{same_name, RepeatsName, Heading, process_heading, same_heading, same_message}
 use Rattle.pz_env_script.specs.Entries.{count_in}
-use Rattle.pz_env_rules.specs.Environment.{Line}
-use Rattle.pz_env_rules.specs.Ends.{first_mentions, named_at}
+use Rattle.pz_env_tree.specs.pz_env_rules.Environment.{Line}
+use Rattle.pz_env_tree.specs.pz_env_rules.Ends.{first_mentions, named_at}
 use Rattle.pz_env_tree.specs.Names.{variable_name, kind_name, port_of}
 use Rattle.pz_env_tree.specs.EnvironmentClass.{named, is_sent, first_messages, unless_none, message_of, method_of, environment_class}
 use Rattle.pz_env_grown.proofs.Elements.{none_in, in_cases}

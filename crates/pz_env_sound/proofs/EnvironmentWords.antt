@@ -23,8 +23,8 @@ use Rattle.pz_classes.specs.NameRules.{is_type, breaks_c5, breaks_c6}
 use Rattle.pz_classes.specs.CallRules.{breaks_c7, is_message, messages, breaks_c11}
 use Rattle.pz_classes.specs.Soundness.{IsSound}
 use Rattle.pz_env_script.specs.Entries.{count_in}
-use Rattle.pz_env_rules.specs.Environment.{Line}
-use Rattle.pz_env_rules.specs.Ends.{first_mentions, named_at}
+use Rattle.pz_env_tree.specs.pz_env_rules.Environment.{Line}
+use Rattle.pz_env_tree.specs.pz_env_rules.Ends.{first_mentions, named_at}
 use Rattle.pz_env_tree.specs.Names.{class_name, method_name, variable_name, kind_name, port_of}
 use Rattle.pz_env_tree.specs.EnvironmentClass.{named, is_sent, first_messages, message_of, environment_class}
 use Rattle.pz_env_grown.proofs.Elements.{none_in, in_cases}

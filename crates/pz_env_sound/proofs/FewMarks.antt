@@ -14,8 +14,8 @@ use Rattle.pz_classes.specs.SizeRules.{system_of, systems}
 use Rattle.pz_classes.specs.SoundSystem.{SystemFits}
 use Rattle.pz_env_script.specs.declared.entry.Entry.{Entry}
 use Rattle.pz_env_script.specs.Entries.{count_in}
-use Rattle.pz_env_rules.specs.Environment.{Line, lines_of}
-use Rattle.pz_env_rules.specs.Ends.{first_mentions}
+use Rattle.pz_env_tree.specs.pz_env_rules.Environment.{Line, lines_of}
+use Rattle.pz_env_tree.specs.pz_env_rules.Ends.{first_mentions}
 use Rattle.pz_env_tree.specs.EnvironmentClass.{environment_class}
 use Rattle.pz_env_tree.specs.ClosedTree.{environment, channel_of, closed_system, closed_tree}
 use Rattle.pz_env_sound.proofs.Grown.{grown_decl}

@@ -20,8 +20,8 @@ use Rattle.pz_value.specs.declared.value.Value.{Value}
 use Rattle.pz_env_script.specs.declared.entry.Transfer.{Transfer}
 use Rattle.pz_env_script.specs.declared.entry.Transfer.TheVariants.{Send, Receive}
 use Rattle.pz_env_script.specs.Entries.{count_in}
-use Rattle.pz_env_rules.specs.Environment.{Line, at_line}
-use Rattle.pz_env_rules.specs.Ends.{first_mentions, named_at}
+use Rattle.pz_env_tree.specs.pz_env_rules.Environment.{Line, at_line}
+use Rattle.pz_env_tree.specs.pz_env_rules.Ends.{first_mentions, named_at}
 use Rattle.pz_env_tree.specs.Names.{port_of, variable_name, kind_name}
 use Rattle.pz_env_tree.specs.EnvironmentClass.{unless_none, message_of, literals, arguments, exchange, statements, environment_class, first_messages}
 use Rattle.pz_env_grown.proofs.Elements.{first_in, later_in}

@@ -8,8 +8,8 @@ use Rattle.std.proofs.lemmas.List.Elements.{Contains-append_cases}
 use Rattle.pz_syntax.specs.declared.clusters.Channel.{Channel}
 use Rattle.pz_syntax.specs.declared.clusters.ChannelEnd.{ChannelEnd}
 use Rattle.pz_syntax.specs.declared.clusters.ChannelEnd.TheVariants.{Inner, Outer}
-use Rattle.pz_env_rules.specs.Environment.{Line}
-use Rattle.pz_env_rules.specs.Ends.{first_mentions, named_at}
+use Rattle.pz_env_tree.specs.pz_env_rules.Environment.{Line}
+use Rattle.pz_env_tree.specs.pz_env_rules.Ends.{first_mentions, named_at}
 use Rattle.pz_env_tree.specs.Names.{instance_name, port_of}
 use Rattle.pz_env_tree.specs.ClosedTree.{channel_of}
 use Rattle.pz_classes.specs.ChannelRules.{same_end}

@@ -36,7 +36,7 @@ use Rattle.pz_classes_openings.specs.OpeningRules.{BreaksC23, round, BreaksC24, 
 use Rattle.pz_env_script.specs.Literals.{number, none as no_more, more}
 use Rattle.pz_env_script.specs.Entries.{sends}
 use Rattle.pz_env_script.specs.Scripts.{IsWritten}
-use Rattle.pz_env_rules.proofs.WorkedSystem.{at, id, class_R, system_of, instance_r, model, script}
+use Rattle.pz_env_tree.proofs.pz_env_rules_proofs.WorkedSystem.{at, id, class_R, system_of, instance_r, model, script}
 use Rattle.pz_env_tree.proofs.Refusing.{refused_found}
 use Rattle.pz_env_grown.proofs.Elements.{none_in, in_cases}
 use Rattle.pz_env_grown.proofs.Numbers.{none_some, some_same}

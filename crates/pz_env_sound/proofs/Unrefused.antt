@@ -14,7 +14,7 @@ use Rattle.pz_classes.specs.SizeRules.{system_of, systems, system_size}
 use Rattle.pz_classes.specs.SoundSystem.{SystemFits}
 use Rattle.pz_bind.specs.Nest.{first_system, system_class, instances_at, channels_at}
 use Rattle.pz_env_script.specs.declared.entry.Entry.{Entry}
-use Rattle.pz_env_rules.specs.Environment.{Line, lines_from, lines_of}
+use Rattle.pz_env_tree.specs.pz_env_rules.Environment.{Line, lines_from, lines_of}
 use Rattle.pz_env_tree.specs.Names.{class_name, instance_name}
 use Rattle.pz_env_tree.specs.Refusals.{IsFirstRefused, full_processes, most_channels}
 use Rattle.pz_env_tree.specs.Laws.{RefusalsAreComputed}

@@ -8,11 +8,11 @@ use Rattle.pz_trace.specs.declared.forms.Form.TheVariants.{Three}
 use Rattle.pz_trace.specs.Forms.{limits_of}
 use Rattle.pz_env_script.specs.declared.entry.Entry.{Entry}
 use Rattle.pz_env_script.specs.Laws.{IsOneScript, IsNeverBoth}
-use Rattle.pz_env_rules.specs.Text.{drive_header}
+use Rattle.pz_env_tree.specs.pz_env_rules.Text.{drive_header}
 use Rattle.pz_env_tree.specs.ClosedTree.{closed_tree}
 use Rattle.pz_env_tree.specs.Refusals.{IsFirstRefused}
-use Rattle.pz_env_sound.specs.MayClose.{MayClose}
-use Rattle.pz_env_mimics.specs.Closing.{MayDrive}
+use Rattle.pz_env_closing.specs.pz_env_sound.MayClose.{MayClose}
+use Rattle.pz_env_closing.specs.pz_env_mimics.Closing.{MayDrive}
 use Rattle.pz_env_closing.specs.Laws.{ClosedRunsAreDriven, OneDrivenEnding}
 use Rattle.pz_term_simulator.specs.Simulations.{Simulation}
 use Rattle.pz_run_playing.specs.declared.finale.Finale.{Finale}

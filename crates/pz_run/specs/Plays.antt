@@ -11,7 +11,7 @@ use Rattle.pz_words.specs.declared.jobs.RunLimits.{RunLimits}
 use Rattle.pz_words.specs.declared.jobs.Job.{Job}
 use Rattle.pz_words.specs.declared.jobs.Job.TheVariants.{Run, Menu, Replay, Check, Make, Ring, Format, Watch, Drive}
 use Rattle.pz_env_script.specs.declared.entry.Entry.{Entry}
-use Rattle.pz_env_rules.specs.Joining.{Driving, driving}
+use Rattle.pz_env_tree.specs.pz_env_rules.Joining.{Driving, driving}
 use Rattle.pz_env_closing.specs.DrivenRuns.{ChosenDrivenRun}
 use Rattle.pz_run_playing.specs.Policies.{resolver_of, policy_of}
 use Rattle.pz_run_playing.specs.Playing as playing

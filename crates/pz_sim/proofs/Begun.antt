@@ -21,9 +21,9 @@ use Rattle.pz_rules.specs.Fitting.{IsFit}
 use Rattle.pz_rules.specs.Heights.{IsLow}
 use Rattle.pz_rules.specs.Runs.{whole}
 use Rattle.pz_rules.specs.Starting.{StartsAs, IsStart}
-use Rattle.pz_term_processes.specs.declared.process.Process.{Process}
-use Rattle.pz_term_processes.specs.Standing as standing
-use Rattle.pz_term_processes.specs.Standing.{process_view, AreProcesses}
+use Rattle.pz_tree.specs.pz_term_processes.declared.process.Process.{Process}
+use Rattle.pz_tree.specs.pz_term_processes.Standing as standing
+use Rattle.pz_tree.specs.pz_term_processes.Standing.{process_view, AreProcesses}
 use Rattle.pz_term_simulator.specs.Simulations as simulations
 use Rattle.pz_term_simulator.specs.Simulations.{Starts, stands}
 use Rattle.pz_sim_laws.specs.Members.{Member, process_of, config_of}

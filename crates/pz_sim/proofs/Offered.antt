@@ -20,7 +20,7 @@ use Rattle.pz_rules.specs.devices.Walk as walk
 use Rattle.pz_rules.specs.devices.Walk.{Noted, active_sends, active_receives}
 use Rattle.pz_rules.specs.devices.Walks.{IsThere, ReceivesAreListed}
 use Rattle.pz_tree_nodes.specs.Listing.{Each}
-use Rattle.pz_tree_offering.specs.Offers.{has_condition}
+use Rattle.pz_tree.specs.pz_tree_offering.Offers.{has_condition}
 use Rattle.pz_tree.specs.Asking as asking
 use Rattle.pz_sim_laws.specs.Offering as offering
 

@@ -15,7 +15,7 @@ use Rattle.pz_rules.specs.Messages.{Hands, Takes}
 use Rattle.pz_rules.specs.Runs.{whole, stopped, IsChoice}
 use Rattle.pz_rules.specs.Settings.{Setting, home_of}
 use Rattle.pz_rules.specs.Steps.{Deed}
-use Rattle.pz_term_processes.specs.Standing.{setting_of}
+use Rattle.pz_tree.specs.pz_term_processes.Standing.{setting_of}
 use Rattle.pz_term_simulator.specs.Simulations.{Simulation, stands, broken}
 use Rattle.pz_sim_laws.specs.Couples.{AreCouples}
 use Rattle.pz_sim_laws.specs.Members.{config_of}

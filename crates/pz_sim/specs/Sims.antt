@@ -5,7 +5,7 @@ use Rattle.pz_classes.specs.CheckedView.{checked_model}
 use Rattle.pz_rules.specs.Settings.{Setting}
 use Rattle.pz_rules.specs.Runs.{whole, stopped}
 use Rattle.pz_rules.specs.devices.Start.{start_of}
-use Rattle.pz_term_processes.specs.Standing.{setting_of}
+use Rattle.pz_tree.specs.pz_term_processes.Standing.{setting_of}
 use Rattle.pz_term_simulator.specs.Simulations.{Simulation, stands, broken}
 use Rattle.pz_sim_laws.specs.Members.{config_of}
 use Rattle.pz_tree.specs.declared.tree.Tree.{Tree}

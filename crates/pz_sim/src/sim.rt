@@ -3,7 +3,7 @@ ghost use Rattle.pz_classes.specs.CheckedView.{checked_model};
 ghost use Rattle.pz_bind.specs.devices.Nets.{IsNet};
 ghost use Rattle.pz_rules.specs.declared.limits.Edition.TheVariants.{Two};
 ghost use Rattle.pz_rules.specs.CallLaws.{NoRounds};
-ghost use Rattle.pz_term_processes.specs.Standing.{setting_of};
+ghost use Rattle.pz_tree.specs.pz_term_processes.Standing.{setting_of};
 ghost use Rattle.pz_sim.specs.devices.Holding.{Holds};
 
 use crate::standing::Standing;

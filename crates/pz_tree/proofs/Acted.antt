@@ -23,7 +23,7 @@ use Rattle.pz_nodes_shapes.specs.Rose.{Map, has_option}
 use Rattle.pz_nodes_shapes.specs.Change.{BecomesOption}
 use Rattle.pz_offer.specs.PlaceOrder.{Place}
 use Rattle.pz_offer.specs.declared.trouble.Trouble.{Trouble}
-use Rattle.pz_part_actions.specs.Homes.{seen_home}
+use Rattle.pz_tree_acting.specs.pz_part_actions.Homes.{seen_home}
 use Rattle.pz_part_opening.specs.declared.home.Home.{Home}
 use Rattle.pz_part_opening.specs.Homes.{home_in, home_view}
 use Rattle.pz_part_queries.specs.declared.standpoint.Standpoint.{Standpoint}

@@ -15,3 +15,6 @@ mod tree;
 pub use found::InternalAction;
 pub use pz_tree_acting::How;
 pub use tree::Tree;
+
+// What stands on this names it too, and so has it from here.
+pub use pz_term_processes;

@@ -5,7 +5,7 @@ use Rattle.pz_syntax.specs.ModelText.{text}
 use Rattle.pz_classes.specs.Soundness.{IsSound}
 use Rattle.pz_classes_openings.specs.OpeningRules.{Opens}
 use Rattle.pz_env_script.specs.declared.entry.Entry.{Entry}
-use Rattle.pz_env_rules.specs.Text.{drive_header}
+use Rattle.pz_env_tree.specs.pz_env_rules.Text.{drive_header}
 use Rattle.pz_run_playing.specs.RunText.{text_under}
 use Rattle.pz_run.specs.Limits.{model_limit}
 use Rattle.pz_run.specs.declared.play.Play.{Play}

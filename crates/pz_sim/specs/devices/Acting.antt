@@ -15,7 +15,7 @@ use Rattle.pz_rules.specs.Configurations.{Config}
 use Rattle.pz_rules.specs.Fitting.{TermFits}
 use Rattle.pz_rules.specs.Messages.{Hands}
 use Rattle.pz_rules.specs.Steps.{Deed}
-use Rattle.pz_term_processes.specs.Standing.{setting_of}
+use Rattle.pz_tree.specs.pz_term_processes.Standing.{setting_of}
 use Rattle.pz_sim_totals.specs.declared.total.Total.{Total}
 use Rattle.pz_sim_laws.specs.Members.{config_of}
 use Rattle.pz_sim_laws.specs.Deciding.{total_of}

@@ -1,6 +1,6 @@
 use Rattle.std.proofs.Common.{◌≡◌, ◌++◌, map}
 use Rattle.pz_syntax.specs.ClassView.{decl_view}
-use Rattle.pz_env_rules.specs.Environment.{lines_of}
+use Rattle.pz_env_tree.specs.pz_env_rules.Environment.{lines_of}
 use Rattle.pz_env_tree.specs.ClosedTree.{closed_decl}
 use Rattle.pz_env.proofs.closing.closed_decls.Given as goal
 

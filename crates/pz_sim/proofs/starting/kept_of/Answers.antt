@@ -2,7 +2,7 @@ use Rattle.std.proofs.Common.{◌≡◌, ◌∙◌, sym, ap, subst, List, length
 use Rattle.std.specs.Prelude.{All, map}
 use Rattle.std.proofs.Math.Logic.{∥∥₁_map}
 use Rattle.pz_classes.specs.CheckedView.{checked_model}
-use Rattle.pz_term_processes.specs.Standing.{setting_of}
+use Rattle.pz_tree.specs.pz_term_processes.Standing.{setting_of}
 use Rattle.pz_syntax.specs.Classes.{ModelTree}
 use Rattle.pz_sim_laws.specs.Deciding.{total_of}
 use Rattle.pz_tree.specs.declared.tree.Tree.{Tree}

@@ -7,7 +7,7 @@ use Rattle.pz_bind_levels.specs.Places.{Address}
 use Rattle.pz_bind.specs.Nest.{processes, class_at}
 use Rattle.pz_bind.specs.NetView.{HasProcess}
 use Rattle.pz_rules.specs.Starting.{StartsAs}
-use Rattle.pz_term_processes.specs.Standing.{setting_of, process_view}
+use Rattle.pz_tree.specs.pz_term_processes.Standing.{setting_of, process_view}
 use Rattle.pz_tree.specs.Trees.{at_in}
 use Rattle.pz_sim.proofs.Begun.{none_planted, has_process, begins, is_low, one_planted, all_planted, trees_planted}
 use Rattle.pz_sim.proofs.starting.trees_of.Goals as goal

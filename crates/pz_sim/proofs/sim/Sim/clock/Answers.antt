@@ -1,5 +1,5 @@
 use Rattle.pz_classes.specs.CheckedView.{checked_model}
-use Rattle.pz_term_processes.specs.Standing.{setting_of}
+use Rattle.pz_tree.specs.pz_term_processes.Standing.{setting_of}
 use Rattle.pz_sim.proofs.Kept.{clock_is}
 use Rattle.pz_sim.proofs.sim.Sim.clock.Goals as goal
 

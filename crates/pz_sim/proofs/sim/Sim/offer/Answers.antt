@@ -5,7 +5,7 @@ use Rattle.pz_classes.specs.CheckedView.{checked_model}
 use Rattle.pz_classes.specs.Soundness.{IsSound}
 use Rattle.pz_match.specs.Pairs.{taken}
 use Rattle.pz_sim_totals.specs.declared.total.Total.{Total}
-use Rattle.pz_term_processes.specs.Standing.{setting_of}
+use Rattle.pz_tree.specs.pz_term_processes.Standing.{setting_of}
 use Rattle.pz_sim.specs.devices.Numbered.{IsCommunication}
 use Rattle.pz_sim.proofs.Numbered.{never_other, process_within, process_below, has_action, internal_offered, table_there, number_left, communication_offered}
 use Rattle.pz_sim.proofs.sim.Sim.offer.Goals as goal

@@ -6,7 +6,7 @@ use Rattle.pz_state.specs.States.{variable}
 use Rattle.pz_copy.specs.Packing.{IsParcelOf}
 use Rattle.pz_classes.specs.CheckedView.{checked_model}
 use Rattle.pz_rules.specs.devices.Start.{start_of}
-use Rattle.pz_term_processes.specs.Standing.{setting_of}
+use Rattle.pz_tree.specs.pz_term_processes.Standing.{setting_of}
 use Rattle.pz_term_simulator.specs.Shown.{HoldsValue, IsShown}
 use Rattle.pz_tree.specs.Trees.{process_in}
 use Rattle.pz_sim.specs.Sims.{simulation_of}

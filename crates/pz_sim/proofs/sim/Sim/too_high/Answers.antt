@@ -3,7 +3,7 @@ use Rattle.pz_classes.specs.CheckedView.{checked_model}
 use Rattle.pz_classes.specs.Soundness.{IsSound}
 use Rattle.pz_rules.specs.devices.Start.{start_of}
 use Rattle.pz_term_simulator.specs.Simulations as simulations
-use Rattle.pz_term_processes.specs.Standing.{setting_of}
+use Rattle.pz_tree.specs.pz_term_processes.Standing.{setting_of}
 use Rattle.pz_sim.proofs.sim.Sim.too_high.Goals as goal
 
 pub invariant_of-result : goal.invariant_of-result

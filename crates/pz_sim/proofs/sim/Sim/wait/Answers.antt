@@ -1,7 +1,7 @@
 use Rattle.std.proofs.Common.{◌<◌, ◌+◌, ◌^◌, ℕ, sym, subst, arith}
 use Rattle.pz_classes.specs.CheckedView.{checked_model}
 use Rattle.pz_classes.specs.Soundness.{IsSound}
-use Rattle.pz_term_processes.specs.Standing.{setting_of}
+use Rattle.pz_tree.specs.pz_term_processes.Standing.{setting_of}
 use Rattle.pz_sim.proofs.Kept.{setting_at}
 use Rattle.pz_sim.proofs.Timed.{kept_at_time, clock_before, time_passes}
 use Rattle.pz_sim.proofs.Waited.{short_so, passes_soon}
