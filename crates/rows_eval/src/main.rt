@@ -23,19 +23,26 @@ fn show_file(rt: &HostRuntime, name: &str) -> io::Result<()> {
     }
 }
 
-fn main(rt: HostRuntime) -> io::Result<()> {
-    let words = env::args(&rt)?.collect::<Vec<String>>(rt.alloc())?;
-    match words.as_slice() {
-        [_, job, rounds] if job.as_str() == "bench" => bench::show_bench(&rt, rounds.as_str()),
+/// The answers to the questions of each of these files.
+fn show_files(rt: &HostRuntime, names: &[String]) -> io::Result<()> {
+    for name in names {
+        show_file(rt, name.as_str())?;
+    }
+    Ok(())
+}
+
+fn show(rt: &HostRuntime, words: &[String]) -> io::Result<()> {
+    match words {
+        [_, job, rounds] if job.as_str() == "bench" => bench::show_bench(rt, rounds.as_str()),
         [_, job, rounds] if job.as_str() == "assign" => {
-            bench::show_assignments(&rt, rounds.as_str())
+            bench::show_assignments(rt, rounds.as_str())
         }
-        [_, names @ ..] => {
-            for name in names {
-                show_file(&rt, name.as_str())?;
-            }
-            Ok(())
-        }
+        [_, names @ ..] => show_files(rt, names),
         [] => Ok(()),
     }
+}
+
+fn main(rt: HostRuntime) -> io::Result<()> {
+    let words = env::args(&rt)?.collect::<Vec<String>>(rt.alloc())?;
+    show(&rt, words.as_slice())
 }

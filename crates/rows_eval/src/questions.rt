@@ -16,7 +16,7 @@ use std::io;
 const QUESTION: &str = "//? ";
 
 /// A question: the name of a method, and an allowance.
-#[derive(Drop)]
+#[derive(Clone, Copy)]
 struct Question<'a> {
     name: &'a str,
     allowance: Allowance,
@@ -64,18 +64,25 @@ fn show_answer(rt: &HostRuntime, model: &Model, classes: &Classes, words: &str) 
     }
 }
 
-fn show_built(rt: &HostRuntime, model: &Model, text: &str) -> io::Result<()>
-    requires { HasFewMarks (model_view model.now) }
+/// The answer to each question in the comments of a text.
+fn show_each(rt: &HostRuntime, model: &Model, classes: &Classes, text: &str) -> io::Result<()>
+    requires { AreClasses (model_view model.now) classes.now }
 {
-    let Ok(classes) = Classes::build(rt.alloc(), model) else {
-        return println!(rt; "no classes");
-    };
     for line in text.lines() {
         if let Some(words) = line.strip_prefix(QUESTION) {
-            show_answer(rt, model, &classes, words)?;
+            show_answer(rt, model, classes, words)?;
         }
     }
     Ok(())
+}
+
+fn show_built(rt: &HostRuntime, model: &Model, text: &str) -> io::Result<()>
+    requires { HasFewMarks (model_view model.now) }
+{
+    match Classes::build(rt.alloc(), model) {
+        Ok(classes) => show_each(rt, model, &classes, text),
+        Err(_) => println!(rt; "no classes"),
+    }
 }
 
 /// The answers to the questions of a text.

@@ -6,16 +6,20 @@ use pz_syntax::Pos;
 use pz_value::Value;
 use std::io;
 
+fn show_text(rt: &HostRuntime, bytes: &[u8]) -> io::Result<()> {
+    match std::str::from_utf8(bytes) {
+        Ok(text) => print!(rt; " \"{text}\""),
+        Err(_) => print!(rt; " bytes"),
+    }
+}
+
 pub fn show_value(rt: &HostRuntime, value: &Value) -> io::Result<()> {
     match value {
         Value::Nil => print!(rt; " nil"),
         Value::Bool(is) => print!(rt; " {is}"),
         Value::Int(number) => print!(rt; " {number}"),
         Value::Char(byte) => print!(rt; " '{byte}'"),
-        Value::Str(text) => match std::str::from_utf8(text.as_bytes()) {
-            Ok(text) => print!(rt; " \"{text}\""),
-            Err(_) => print!(rt; " bytes"),
-        },
+        Value::Str(text) => show_text(rt, text.as_bytes()),
         Value::Ref(r) => print!(rt; " #{r}"),
     }
 }
@@ -48,14 +52,19 @@ pub fn show_listed(rt: &HostRuntime, listed: &Listed) -> io::Result<()> {
     }
 }
 
-/// The variables, and the items of each object.
-pub fn show_state(rt: &HostRuntime, state: &State) -> io::Result<()> {
+fn show_variables(rt: &HostRuntime, state: &State) -> io::Result<()> {
     print!(rt; " |")?;
     for slot in 0..state.variables() {
         if let Ok(slot) = u32::try_from(slot) {
             show_value(rt, state.var(slot))?;
         }
     }
+    Ok(())
+}
+
+/// The variables, and the items of each object.
+pub fn show_state(rt: &HostRuntime, state: &State) -> io::Result<()> {
+    show_variables(rt, state)?;
     for r in 0..state.objects() {
         print!(rt; ", #{r}")?;
         show_values(rt, state.object(r).items())?;

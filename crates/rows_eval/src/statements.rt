@@ -40,11 +40,16 @@ fn show_expression(
         frame,
         allowance,
     } = asking;
-    let tried = try_eval(rt.alloc(), classes, state, frame, CLOCK, code, allowance)?;
-    show_outcome(rt, &tried)?;
+    let alloc = rt.alloc();
+    show_outcome(
+        rt,
+        &try_eval(alloc, classes, state, frame, CLOCK, code, allowance)?,
+    )?;
     print!(rt; " /")?;
-    let found = eval(rt.alloc(), classes, state, frame, CLOCK, code, allowance)?;
-    show_outcome(rt, &found)
+    show_outcome(
+        rt,
+        &eval(alloc, classes, state, frame, CLOCK, code, allowance)?,
+    )
 }
 
 fn show_block(
@@ -64,6 +69,11 @@ fn show_block(
     show_listed(rt, &found)
 }
 
+fn show_packed(rt: &HostRuntime, parcel: &Parcel) -> io::Result<()> {
+    show_values(rt, parcel.values())?;
+    print!(rt; " of {} objects", parcel.objects().len())
+}
+
 /// What a send would hand over, which is kept.
 fn show_parcel(
     rt: &HostRuntime,
@@ -80,8 +90,7 @@ fn show_parcel(
     } = asking;
     match try_parcel(rt.alloc(), classes, state, frame, CLOCK, codes, allowance)? {
         Parceled::Parcel(parcel) => {
-            show_values(rt, parcel.values())?;
-            print!(rt; " of {} objects", parcel.objects().len())?;
+            show_packed(rt, &parcel)?;
             Ok(Some(parcel))
         }
         Parceled::Fault(kind, at) => {
@@ -182,7 +191,58 @@ fn show_statement(
     }
 }
 
-/// The statements of a method with so many locals, in a new state, and that state afterwards.
+/// Each statement, with the parcel that is kept.
+fn show_each(
+    rt: &HostRuntime,
+    asking: Asking<'_>,
+    state: &mut State,
+    kept: &mut Option<Parcel>,
+    steps: &[Step],
+) -> io::Result<()>
+    requires { AreKnown asking.classes.now }
+{
+    for step in steps {
+        show_statement(rt, asking, state, kept, step)?;
+        print!(rt; ";")?;
+    }
+    Ok(())
+}
+
+/// The statements, with no parcel at first.
+fn show_steps(
+    rt: &HostRuntime,
+    asking: Asking<'_>,
+    state: &mut State,
+    steps: &[Step],
+) -> io::Result<()>
+    requires { AreKnown asking.classes.now }
+{
+    let mut kept = None;
+    show_each(rt, asking, state, &mut kept, steps)
+}
+
+/// The statements of a method with so many locals, and the state afterwards.
+fn show_method(
+    rt: &HostRuntime,
+    classes: &Classes,
+    state: &mut State,
+    locals: u32,
+    steps: &[Step],
+    allowance: Allowance,
+) -> io::Result<()>
+    requires { AreKnown classes.now }
+{
+    let frame = state.open_frame(locals)?;
+    let asking = Asking {
+        classes,
+        frame,
+        allowance,
+    };
+    show_steps(rt, asking, state, steps)?;
+    show_state(rt, state)
+}
+
+/// The same in a new state.
 pub fn show_statements(
     rt: &HostRuntime,
     classes: &Classes,
@@ -193,16 +253,5 @@ pub fn show_statements(
     requires { AreKnown classes.now }
 {
     let mut state = State::new(rt.alloc(), nil_values(rt.alloc(), VARIABLES)?);
-    let frame = state.open_frame(locals)?;
-    let asking = Asking {
-        classes,
-        frame,
-        allowance,
-    };
-    let mut kept = None;
-    for step in steps {
-        show_statement(rt, asking, &mut state, &mut kept, step)?;
-        print!(rt; ";")?;
-    }
-    show_state(rt, &state)
+    show_method(rt, classes, &mut state, locals, steps, allowance)
 }

@@ -7,7 +7,6 @@ ghost use Rattle.pz_classes.specs.Tables.{HasClass, HasMethod};
 ghost use Rattle.pz_classes.specs.devices.Rows.{AreClasses};
 
 use crate::bodies::{show_body, show_step};
-use crate::reading::model_in;
 use pz_classes::{Classes, MethodId, Step};
 use pz_classes_code::NameFront;
 use pz_syntax::Model;
@@ -28,7 +27,7 @@ fn show_names(rt: &HostRuntime, what: &str, names: &NameFront) -> io::Result<()>
 }
 
 fn show_start(rt: &HostRuntime, step: &Step) -> io::Result<()> {
-    print!(rt; "  starts with ")?;
+    print!(rt; "  starts with")?;
     show_step(rt, step)?;
     println!(rt)
 }
@@ -86,7 +85,7 @@ fn show_method(rt: &HostRuntime, model: &Model, classes: &Classes, question: &st
     match answer(model, classes, question) {
         None => println!(rt; "{question}: none"),
         Some(method) => {
-            print!(rt; "{question}: {} ", method.0)?;
+            print!(rt; "{question}: {}", method.0)?;
             show_body(rt, classes.body(method))?;
             println!(rt)
         }
@@ -100,23 +99,31 @@ fn show_number(rt: &HostRuntime, classes: &Classes, name: &str) -> io::Result<()
     println!(rt; "{name}: {class:?} of {count}")
 }
 
+/// The answer to a question.
+fn show_answer(rt: &HostRuntime, model: &Model, classes: &Classes, question: &str) -> io::Result<()>
+    requires { AreClasses (model_view model.now) classes.now }
+{
+    if question.contains(' ') {
+        show_method(rt, model, classes, question)
+    } else {
+        show_number(rt, classes, question)
+    }
+}
+
 /// The answer to each question in the comments of a text.
 fn show_answers(rt: &HostRuntime, model: &Model, classes: &Classes, text: &str) -> io::Result<()>
     requires { AreClasses (model_view model.now) classes.now }
 {
     for line in text.lines() {
         if let Some(question) = line.strip_prefix(QUESTION) {
-            if question.contains(' ') {
-                show_method(rt, model, classes, question)?;
-            } else {
-                show_number(rt, classes, question)?;
-            }
+            show_answer(rt, model, classes, question)?;
         }
     }
     Ok(())
 }
 
-fn show_built(rt: &HostRuntime, model: &Model, text: &str) -> io::Result<()>
+/// What each class of a model has, and the answers to the questions in the comments of its text.
+pub fn show_family(rt: &HostRuntime, model: &Model, text: &str) -> io::Result<()>
     requires { HasFewMarks (model_view model.now) }
 {
     match Classes::build(rt.alloc(), model) {
@@ -128,31 +135,12 @@ fn show_built(rt: &HostRuntime, model: &Model, text: &str) -> io::Result<()>
     }
 }
 
-/// What each class of a text has, and the answers to the questions in its comments.
-pub fn show_family(rt: &HostRuntime, text: &[u8]) -> io::Result<()> {
-    let Ok(written) = std::str::from_utf8(text) else {
-        return println!(rt; "no text");
-    };
-    match model_in(rt.alloc(), text) {
-        Ok(model) => show_built(rt, &model, written),
-        Err(refusal) => println!(rt; "{refusal}"),
-    }
-}
-
 /// Which of the rules on classes and their parents the model of a line violates.
-fn show_violated(rt: &HostRuntime, model: &Model, line: &str) -> io::Result<()>
+pub fn show_violated(rt: &HostRuntime, model: &Model, line: &str) -> io::Result<()>
     requires { HasFewMarks (model_view model.now) }
 {
     match Classes::build(rt.alloc(), model) {
         Ok(_) => println!(rt; "accepted: {line}"),
         Err(error) => println!(rt; "{error:?}: {line}"),
-    }
-}
-
-/// The same of a line, or why it is no model.
-pub fn show_refusal(rt: &HostRuntime, line: &str) -> io::Result<()> {
-    match model_in(rt.alloc(), line.as_bytes()) {
-        Ok(model) => show_violated(rt, &model, line),
-        Err(refusal) => println!(rt; "{refusal}: {line}"),
     }
 }

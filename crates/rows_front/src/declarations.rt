@@ -3,7 +3,6 @@
 
 ghost use Rattle.std.specs.Prelude.{◌+◌, ◌-◌, ◌^◌, min};
 
-use crate::reading::model_in;
 use pz_classes::{channels_of, instances_of};
 use pz_classes_mentions::{Listener, Part, Word, parts_of};
 use pz_items::Items;
@@ -48,9 +47,8 @@ fn show_parts(rt: &HostRuntime, parts: &[Part]) -> io::Result<()> {
 
 /// What it is, and a copy of its name and place.
 fn show_id(rt: &HostRuntime, what: &str, id: &Id) -> io::Result<()> {
-    let copy = id.copy()?;
-    let name = copy.name.as_str();
-    println!(rt; "  {what} {name} at {}:{}", copy.pos.line, copy.pos.column)
+    let Id { name, pos } = id.copy()?;
+    println!(rt; "  {what} {} at {}:{}", name.as_str(), pos.line, pos.column)
 }
 
 fn show_message(rt: &HostRuntime, message: &Message) -> io::Result<()> {
@@ -131,18 +129,10 @@ fn show_declaration(rt: &HostRuntime, decl: &Decl) -> io::Result<()> {
     show_inside(rt, decl)
 }
 
-fn show_each(rt: &HostRuntime, model: &Model) -> io::Result<()> {
+/// The declarations of a model.
+pub fn show_declarations(rt: &HostRuntime, model: &Model) -> io::Result<()> {
     for decl in model.decls.as_slice() {
         show_declaration(rt, decl)?;
     }
     Ok(())
-}
-
-/// The declarations of a line, or why it is no model.
-pub fn show_declarations(rt: &HostRuntime, line: &str) -> io::Result<()> {
-    println!(rt; "{line}")?;
-    match model_in(rt.alloc(), line.as_bytes()) {
-        Ok(model) => show_each(rt, &model),
-        Err(refusal) => println!(rt; "  {refusal}"),
-    }
 }

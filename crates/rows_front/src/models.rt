@@ -1,36 +1,40 @@
 //! Models: that their text is that of their tokens, their heads and their nesting.
 
-use crate::reading::{LIMIT, model_in, tokens_in, tree_of};
+ghost use Rattle.pz_syntax.specs.ClassView.{model_view};
+ghost use Rattle.pz_syntax.specs.ModelText.{HasFewMarks};
+
+use crate::reading::{tokens_in, tree_of};
 use pz_ast::{nesting, tokens_of};
 use pz_syntax::{Mark, Model, Token};
 use std::alloc::{AllocError, Global};
 use std::io;
 
-/// The marks of tokens, as they are printed.
-fn read_marks(alloc: Global, tokens: &[Token]) -> Result<String, AllocError> {
-    let mut text = String::new(alloc);
-    for token in tokens {
-        let mark = format!(in alloc; "{:?} ", token.mark)?;
-        text.push_str(mark.as_str())?;
-    }
-    Ok(text)
+/// Whether two marks are the same, as they are printed.
+fn is_same(alloc: Global, mark: &Mark, other: &Mark) -> Result<bool, AllocError> {
+    let mark = format!(in alloc; "{mark:?}")?;
+    let other = format!(in alloc; "{other:?}")?;
+    Ok(mark.as_str() == other.as_str())
 }
 
-fn printed_marks(alloc: Global, marks: &[Mark]) -> Result<String, AllocError> {
-    let mut text = String::new(alloc);
-    for mark in marks {
-        let mark = format!(in alloc; "{mark:?} ")?;
-        text.push_str(mark.as_str())?;
+/// Whether these are the marks of the tokens.
+fn are_marks_of(alloc: Global, marks: &[Mark], tokens: &[Token]) -> Result<bool, AllocError> {
+    if marks.len() != tokens.len() {
+        return Ok(false);
     }
-    Ok(text)
+    for (mark, token) in marks.iter().zip(tokens) {
+        if !is_same(alloc, mark, &token.mark)? {
+            return Ok(false);
+        }
+    }
+    Ok(true)
 }
 
 /// Whether the text of the model are the marks of the tokens.
 fn is_text(alloc: Global, model: &Model, tokens: &[Token]) -> Result<bool, AllocError> {
-    let marks = tokens_of(alloc, model)?;
-    let read = read_marks(alloc, tokens)?;
-    let printed = printed_marks(alloc, marks.as_slice())?;
-    Ok(read.as_str() == printed.as_str())
+    match tokens_of(alloc, model) {
+        Ok(marks) => are_marks_of(alloc, marks.as_slice(), tokens),
+        Err(error) => Err(error),
+    }
 }
 
 fn show_parsed(rt: &HostRuntime, text: &[u8], tokens: &[Token]) -> io::Result<()> {
@@ -52,14 +56,6 @@ pub fn show_model(rt: &HostRuntime, text: &[u8]) -> io::Result<()> {
     }
 }
 
-/// Why a line is no model.
-pub fn show_refusal(rt: &HostRuntime, line: &str) -> io::Result<()> {
-    match model_in(rt.alloc(), line.as_bytes()) {
-        Ok(_) => println!(rt; "accepted: {line}"),
-        Err(refusal) => println!(rt; "{refusal}: {line}"),
-    }
-}
-
 /// The marks that are heads, by their numbers from 0.
 fn show_heads(rt: &HostRuntime, marks: &[Mark]) -> io::Result<()> {
     for (number, mark) in marks.iter().enumerate() {
@@ -71,21 +67,14 @@ fn show_heads(rt: &HostRuntime, marks: &[Mark]) -> io::Result<()> {
 }
 
 /// How many tokens a model has, its nesting and its heads.
-fn show_shape(rt: &HostRuntime, model: &Model) -> io::Result<()> {
-    let marks = tokens_of(rt.alloc(), model)?;
-    let count = marks.len();
-    if count > LIMIT {
-        return println!(rt; "  too long");
-    }
-    println!(rt; "  {count} tokens, nesting {}", nesting(model))?;
-    show_heads(rt, marks.as_slice())
-}
-
-/// The same of the model of a line.
-pub fn show_tree(rt: &HostRuntime, line: &str) -> io::Result<()> {
-    println!(rt; "{line}")?;
-    match model_in(rt.alloc(), line.as_bytes()) {
-        Ok(model) => show_shape(rt, &model),
-        Err(refusal) => println!(rt; "  {refusal}"),
+pub fn show_shape(rt: &HostRuntime, model: &Model) -> io::Result<()>
+    requires { HasFewMarks (model_view model.now) }
+{
+    match tokens_of(rt.alloc(), model) {
+        Ok(marks) => {
+            println!(rt; "  {} tokens, nesting {}", marks.len(), nesting(model))?;
+            show_heads(rt, marks.as_slice())
+        }
+        Err(_) => println!(rt; "  no memory"),
     }
 }

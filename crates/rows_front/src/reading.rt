@@ -16,7 +16,7 @@ use std::fmt;
 pub const LIMIT: usize = 4_000_000;
 
 /// Why a text is that of no model.
-#[derive(Debug, Drop)]
+#[derive(Clone, Copy)]
 pub enum NoModel {
     TooLong,
     Tokens(LexError),
