@@ -79,12 +79,13 @@ fn show_built(rt: &HostRuntime, model: &Model) -> io::Result<()>
     }
 }
 
-/// The same on a line of its own; nothing of a model that is too long.
+/// The same on a line of its own.
 fn show_answers(rt: &HostRuntime, order: &str, model: &Model) -> io::Result<()> {
     print!(rt; "  {order}: ")?;
-    if is_short(rt.alloc(), model) {
-        show_built(rt, model)?;
+    if !is_short(rt.alloc(), model) {
+        return println!(rt; "too long");
     }
+    show_built(rt, model)?;
     println!(rt)
 }
 

@@ -77,14 +77,27 @@ fn frames(rt: &HostRuntime, subject: &mut Subject, size: u32, changes: u32) -> i
     println!(rt; "the next frame was {next}")
 }
 
+/// One of the benches, with a state of one variable.
+fn change(
+    rt: &HostRuntime,
+    subject: &mut Subject,
+    bench: &str,
+    size: u32,
+    changes: u32,
+) -> io::Result<()>
+    requires { 0 < size }
+{
+    match bench {
+        "mixed" => mixed(rt, subject, size, changes),
+        "frames" => frames(rt, subject, size, changes),
+        _ => println!(rt; "no bench"),
+    }
+}
+
 /// One of the benches: how much there is before, and how many changes are made.
 pub fn show_bench(rt: &HostRuntime, bench: &str, size: &str, changes: &str) -> io::Result<()> {
     let size = size.parse::<u32>().unwrap_or(1).max(1);
     let changes = changes.parse::<u32>().unwrap_or(0);
     let mut subject = Subject::new(rt.alloc(), 1)?;
-    match bench {
-        "mixed" => mixed(rt, &mut subject, size, changes),
-        "frames" => frames(rt, &mut subject, size, changes),
-        _ => println!(rt; "no bench"),
-    }
+    change(rt, &mut subject, bench, size, changes)
 }

@@ -1,11 +1,12 @@
 //! Changes of a state, a line each.
 
 use crate::subject::Subject;
-use pz_state::MakeError;
+use pz_state::{FrameId, MakeError};
+use std::alloc::{AllocError, Global};
 use std::io;
 
 /// What a line asks for. Numbers that a line leaves out are 0.
-#[derive(Clone, Copy, Debug)]
+#[derive(Clone, Copy)]
 pub enum Change {
     State { variables: u32 },
     Variable { slot: u32, number: i64 },
@@ -84,10 +85,21 @@ fn show_made(rt: &HostRuntime, made: Result<u32, MakeError>) -> io::Result<()> {
     }
 }
 
+/// Shows the number of a frame that was opened.
+fn show_opened(rt: &HostRuntime, opened: Result<FrameId, AllocError>) -> io::Result<()> {
+    print!(rt; "{}; ", opened?.0)
+}
+
+/// A new state takes the place of this one.
+fn begin(alloc: Global, subject: &mut Subject, variables: u32) -> Result<(), AllocError> {
+    *subject = Subject::new(alloc, variables)?;
+    Ok(())
+}
+
 /// Makes a change, and shows what it answers.
 fn apply(rt: &HostRuntime, subject: &mut Subject, change: Change) -> io::Result<()> {
     match change {
-        Change::State { variables } => *subject = Subject::new(rt.alloc(), variables)?,
+        Change::State { variables } => begin(rt.alloc(), subject, variables)?,
         Change::Variable { slot, number } => subject.set_variable(slot, number)?,
         Change::Item {
             object,
@@ -96,8 +108,8 @@ fn apply(rt: &HostRuntime, subject: &mut Subject, change: Change) -> io::Result<
         } => subject.set_item(object, item, number)?,
         Change::Resize { object, items } => subject.resize(object, items)?,
         Change::Make { class, items } => show_made(rt, subject.make(class, items))?,
-        Change::Open { locals } => print!(rt; "{}; ", subject.open(locals)?.0)?,
-        Change::Enter { locals } => print!(rt; "{}; ", subject.enter(locals)?.0)?,
+        Change::Open { locals } => show_opened(rt, subject.open(locals))?,
+        Change::Enter { locals } => show_opened(rt, subject.enter(locals))?,
         Change::Local { slot, number } => subject.set_local(slot, number)?,
         Change::Close => subject.close()?,
         Change::Mark => subject.mark()?,

@@ -87,7 +87,32 @@ fn args_of(alloc: Global, words: SplitWhitespace, objects: u32) -> Result<Vec<Va
     Ok(args)
 }
 
-/// What the receiver of a line answers.
+fn show_prim(rt: &HostRuntime, answer: &Prim) -> io::Result<()> {
+    match answer {
+        Prim::Value(value) => show::value(rt, value),
+        Prim::Fault(fault) => print!(rt; "{fault:?}"),
+        Prim::Other => print!(rt; "other"),
+    }
+}
+
+/// A line, and what its receiver answers.
+fn show_answer(
+    rt: &HostRuntime,
+    state: &mut State,
+    line: &str,
+    receiver: &Value,
+    selector: &[u8],
+    args: &[Value],
+) -> io::Result<()>
+    requires receiver { RefersWithin (length state.old.held.objects) receiver.now }
+    requires args { All (RefersWithin (length state.old.held.objects)) args.now }
+{
+    print!(rt; "{line} -> ")?;
+    show_prim(rt, &prim(rt.alloc(), state, receiver, selector, args)?)?;
+    println!(rt;)
+}
+
+/// Asks the receiver of a line, if it has a selector too.
 fn ask(rt: &HostRuntime, state: &mut State, line: &str) -> io::Result<()> {
     let mut words = line.split_whitespace();
     let (Some(receiver), Some(selector)) = (words.next(), words.next()) else {
@@ -97,13 +122,7 @@ fn ask(rt: &HostRuntime, state: &mut State, line: &str) -> io::Result<()> {
     let receiver = value_of(rt.alloc(), receiver, objects)?;
     let args = args_of(rt.alloc(), words, objects)?;
     let selector = selector.as_bytes();
-    print!(rt; "{line} -> ")?;
-    match prim(rt.alloc(), state, &receiver, selector, args.as_slice())? {
-        Prim::Value(value) => show::value(rt, &value)?,
-        Prim::Fault(fault) => print!(rt; "{fault:?}")?,
-        Prim::Other => print!(rt; "other")?,
-    }
-    println!(rt;)
+    show_answer(rt, state, line, &receiver, selector, args.as_slice())
 }
 
 /// Does what a line says.
@@ -134,13 +153,25 @@ fn make_objects(state: &mut State) -> Result<(), MakeError> {
     Ok(())
 }
 
+/// The rows, about the objects of one state and the changes of another.
+fn show_made(rt: &HostRuntime, state: &mut State, subject: &mut Subject) -> io::Result<()> {
+    match make_objects(state) {
+        Ok(()) => show_lines(rt, state, subject),
+        Err(error) => println!(rt; "{error:?}"),
+    }
+}
+
 fn show_rows(rt: &HostRuntime) -> io::Result<()> {
     let mut state = State::new(rt.alloc(), Vec::new(rt.alloc()));
     let mut subject = Subject::new(rt.alloc(), 0)?;
-    match make_objects(&mut state) {
-        Ok(()) => show_lines(rt, &mut state, &mut subject),
-        Err(error) => println!(rt; "{error:?}"),
-    }
+    show_made(rt, &mut state, &mut subject)
+}
+
+/// All rows.
+fn show_all(rt: &HostRuntime) -> io::Result<()> {
+    show_rows(rt)?;
+    parcels::show_parcels(rt)?;
+    full::show_full(rt)
 }
 
 fn show_usage(rt: &HostRuntime) -> io::Result<()> {
@@ -148,20 +179,20 @@ fn show_usage(rt: &HostRuntime) -> io::Result<()> {
     println!(rt; "rows_state parcels REACHED OTHERS TIMES")
 }
 
-fn main(rt: HostRuntime) -> io::Result<()> {
-    let words = env::args(&rt)?.collect::<Vec<String>>(rt.alloc())?;
-    match words.as_slice() {
-        [_] => {
-            show_rows(&rt)?;
-            parcels::show_parcels(&rt)?;
-            full::show_full(&rt)
-        }
+fn show_job(rt: &HostRuntime, words: &[String]) -> io::Result<()> {
+    match words {
+        [_] => show_all(rt),
         [_, bench, size, changes] => {
-            benches::show_bench(&rt, bench.as_str(), size.as_str(), changes.as_str())
+            benches::show_bench(rt, bench.as_str(), size.as_str(), changes.as_str())
         }
         [_, bench, reached, others, times] if bench.as_str() == "parcels" => {
-            packing::show_bench(&rt, reached.as_str(), others.as_str(), times.as_str())
+            packing::show_bench(rt, reached.as_str(), others.as_str(), times.as_str())
         }
-        _ => show_usage(&rt),
+        _ => show_usage(rt),
     }
+}
+
+fn main(rt: HostRuntime) -> io::Result<()> {
+    let words = env::args(&rt)?.collect::<Vec<String>>(rt.alloc())?;
+    show_job(&rt, words.as_slice())
 }

@@ -49,8 +49,15 @@ fn fill(state: &mut State, reached: u32, others: u32) -> Result<u32, AllocError>
     Ok(last)
 }
 
-/// Packs the object so many times, and shows how many objects that copied and how many the state has.
-fn show_packing(rt: &HostRuntime, state: &State, last: u32, times: u32) -> io::Result<()> {
+/// Packs the last of a chain, and shows how many objects that copied and how many the state has.
+fn show_packing(
+    rt: &HostRuntime,
+    state: &mut State,
+    reached: u32,
+    others: u32,
+    times: u32,
+) -> io::Result<()> {
+    let last = fill(state, reached, others)?;
     let packed = pack_times(rt.alloc(), state, &[Value::Ref(last)], times)?;
     let objects = state.objects();
     println!(rt; "{packed} objects packed, out of a state of {objects}")
@@ -59,6 +66,11 @@ fn show_packing(rt: &HostRuntime, state: &State, last: u32, times: u32) -> io::R
 /// Packs the last of a chain of so many objects so many times, out of a state that has so many others.
 pub fn show_bench(rt: &HostRuntime, reached: &str, others: &str, times: &str) -> io::Result<()> {
     let mut state = State::new(rt.alloc(), Vec::new(rt.alloc()));
-    let last = fill(&mut state, number(reached), number(others))?;
-    show_packing(rt, &state, last, number(times))
+    show_packing(
+        rt,
+        &mut state,
+        number(reached),
+        number(others),
+        number(times),
+    )
 }

@@ -35,13 +35,18 @@ fn show_unpacked(rt: &HostRuntime, state: &mut State, parcel: &Parcel) -> io::Re
     show_packed(rt, "packed again", state, copies.as_slice())
 }
 
+/// Unpacks the parcel behind five other objects.
+fn show_behind(rt: &HostRuntime, parcel: &Parcel) -> io::Result<()> {
+    let mut other = nodes(rt.alloc(), 5)?;
+    show_unpacked(rt, &mut other, parcel)
+}
+
 /// Moves the values behind five other objects.
 fn show_moved(rt: &HostRuntime, state: &State, values: &[Value]) -> io::Result<()> {
     if !refer_within(values, state.objects()) {
         return println!(rt; "no such object");
     }
-    let mut other = nodes(rt.alloc(), 5)?;
-    show_unpacked(rt, &mut other, &pack(rt.alloc(), state, values)?)
+    show_behind(rt, &pack(rt.alloc(), state, values)?)
 }
 
 /// Lets two objects name each other, with an Integer each.
@@ -52,7 +57,8 @@ fn join_pair(state: &mut State) -> Result<(), AllocError> {
     set(state, 1, 1, Value::Int(2))
 }
 
-fn show_pair(rt: &HostRuntime, state: &State) -> io::Result<()> {
+fn show_pair(rt: &HostRuntime, state: &mut State) -> io::Result<()> {
+    join_pair(state)?;
     let pair = [Value::Ref(2), Value::Ref(1)];
     show_packed(rt, "pair", state, &pair)?;
     show_moved(rt, state, &pair)
@@ -64,11 +70,6 @@ fn share(state: &mut State) -> Result<(), AllocError> {
     set(state, 1, 1, Value::Ref(3))?;
     set(state, 3, 0, Value::Int(7))?;
     set(state, 2, 1, Value::Ref(2))
-}
-
-fn show_shared(rt: &HostRuntime, state: &State) -> io::Result<()> {
-    let all = [Value::Ref(0), Value::Ref(1), Value::Ref(3)];
-    show_packed(rt, "shared", state, &all)
 }
 
 /// The shared object as two values, the one that names itself, and no value.
@@ -105,17 +106,22 @@ fn show_escapes(rt: &HostRuntime, state: &State) -> io::Result<()> {
     show_packed(rt, "escapes", state, &values)
 }
 
+/// The objects that share one, and then each of those by itself.
+fn show_shared(rt: &HostRuntime, state: &mut State) -> io::Result<()> {
+    share(state)?;
+    let all = [Value::Ref(0), Value::Ref(1), Value::Ref(3)];
+    show_packed(rt, "shared", state, &all)?;
+    show_single(rt, state)
+}
+
 fn show_cycle(rt: &HostRuntime) -> io::Result<()> {
     let mut state = nodes(rt.alloc(), 3)?;
-    join_pair(&mut state)?;
-    show_pair(rt, &state)
+    show_pair(rt, &mut state)
 }
 
 fn show_sharing(rt: &HostRuntime) -> io::Result<()> {
     let mut state = nodes(rt.alloc(), 4)?;
-    share(&mut state)?;
-    show_shared(rt, &state)?;
-    show_single(rt, &state)
+    show_shared(rt, &mut state)
 }
 
 fn show_texts(rt: &HostRuntime) -> io::Result<()> {

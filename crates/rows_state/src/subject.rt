@@ -10,14 +10,14 @@ use std::io;
 use std::marker::Model;
 
 /// An open frame and how many locals it has.
-#[derive(Clone, Copy, Debug)]
+#[derive(Clone, Copy)]
 struct Frame {
     id: FrameId,
     locals: u32,
 }
 
 /// An open mark, and the frame that was named when it was made.
-#[derive(Clone, Copy, Debug)]
+#[derive(Clone, Copy)]
 struct Saved {
     point: Savepoint,
     frame: Option<Frame>,
