@@ -4,7 +4,7 @@ use Rattle.std.specs.Map.{lookup}
 use Rattle.std.specs.Option.{option_map, option_or}
 use Rattle.std.specs.Str.{bytes_eq}
 use Rattle.indexmap.specs.IndexMap.{insert_entry}
-use Rattle.pz_value.specs.declared.value.Value.{Value}
+use Rattle.pz_bind_rules.specs.pz_value.declared.value.Value.{Value}
 use Rattle.pz_bind.specs.declared.bindings.Meaning.{Meaning}
 use Rattle.pz_bind.specs.devices.Bindings.{meaning_value}
 

@@ -2,21 +2,21 @@
 use Rattle.std.proofs.Common.{◌≡◌, refl, sym, ap, ◌∙◌, subst, ℕ, zero, suc, ◌+◌, ◌≤◌, Bool, true, false, List, [], ◌∷◌, ◌++◌, length, length-append, Option, Some, None, slice_get, if◌then◌else◌, arith}
 use Rattle.std.specs.Option.{option_map_or, unwrap_or}
 use Rattle.std.specs.List.{filter, flat_map}
-use Rattle.pz_syntax.specs.declared.clusters.Instance.{Instance}
-use Rattle.pz_syntax.specs.declared.clusters.Channel.{Channel as Written}
-use Rattle.pz_syntax.specs.declared.clusters.ClusterClass.{ClusterClass}
-use Rattle.pz_syntax.specs.declared.clusters.SystemDecl.{SystemDecl}
-use Rattle.pz_syntax.specs.Classes.{DeclTree, ProcessClassTree, data_class, process_class, cluster_class, system, ModelTree}
-use Rattle.pz_classes.specs.Numbers.{declaration}
-use Rattle.pz_classes.specs.Instances.{instances, channels, instance_class}
-use Rattle.pz_classes.specs.SizeRules.{system_of, Totals, nothing, plus, all_of, one_of, expanded, system_size}
-use Rattle.pz_classes.specs.SoundSystem.{SystemFits, IsLimited}
-use Rattle.pz_classes.proofs.Elements.{first_in}
+use Rattle.pz_bind_rules.specs.pz_syntax.declared.clusters.Instance.{Instance}
+use Rattle.pz_bind_rules.specs.pz_syntax.declared.clusters.Channel.{Channel as Written}
+use Rattle.pz_bind_rules.specs.pz_syntax.declared.clusters.ClusterClass.{ClusterClass}
+use Rattle.pz_bind_rules.specs.pz_syntax.declared.clusters.SystemDecl.{SystemDecl}
+use Rattle.pz_bind_rules.specs.pz_syntax.Classes.{DeclTree, ProcessClassTree, data_class, process_class, cluster_class, system, ModelTree}
+use Rattle.pz_bind_rules.specs.pz_classes_rules.Numbers.{declaration}
+use Rattle.pz_bind_rules.specs.pz_classes_rules.Instances.{instances, channels, instance_class}
+use Rattle.pz_bind_rules.specs.pz_classes_rules.SizeRules.{system_of, Totals, nothing, plus, all_of, one_of, expanded, system_size}
+use Rattle.pz_bind_rules.specs.pz_classes_rules.SoundSystem.{SystemFits, IsLimited}
+use Rattle.pz_bind_rules.proofs.pz_classes_rules_proofs.Elements.{first_in}
 use Rattle.pz_bind_levels.specs.Places.{Address}
-use Rattle.pz_bind.specs.Nest.{first_system, each_instance, system_class, instances_in, channels_in, class_of, class_at, instances_at, instance_at, channels_at, with_inside, inside, places, is_level, is_process_at, processes}
-use Rattle.pz_bind.specs.Wires.{is_joined, ending, wires_at, wires}
-use Rattle.pz_bind.proofs.Sorts.{Sort, of_none, a_process, a_cluster, sort}
-use Rattle.pz_bind.proofs.Spots.{comes_next, moved_on, one_longer}
+use Rattle.pz_bind_rules.specs.Nest.{first_system, each_instance, system_class, instances_in, channels_in, class_of, class_at, instances_at, instance_at, channels_at, with_inside, inside, places, is_level, is_process_at, processes}
+use Rattle.pz_bind_rules.specs.Wires.{is_joined, ending, wires_at, wires}
+use Rattle.pz_bind_rules.proofs.Sorts.{Sort, of_none, a_process, a_cluster, sort}
+use Rattle.pz_bind_rules.proofs.Spots.{comes_next, moved_on, one_longer}
 
 -- the weights of these places together
 abbrev total : (Address → ℕ) → List Address → ℕ

@@ -1,13 +1,3 @@
-mod Rows
-mod Lists
-mod Linked
-mod Layouts
-mod Sorts
-mod Spots
-mod LevelFits
-mod Named
-mod Ends
-mod Wired
 mod Gets
 mod PlanSteps
 mod Placed

@@ -3,13 +3,13 @@ use Rattle.std.proofs.Common.{◌≡◌, refl, sym, ap, ◌∙◌, subst, ℕ, z
 use Rattle.std.specs.Option.{MatchOption, IfSome, option_map_or}
 use Rattle.std.proofs.lemmas.List.{length-map}
 use Rattle.std.proofs.lemmas.Option.{slice_get_within, slice_get-get_or}
-use Rattle.pz_syntax.specs.Classes.{DeclTree, ModelTree}
-use Rattle.pz_classes.specs.Numbers.{declaration}
-use Rattle.pz_classes.specs.Kinds.{is_process}
+use Rattle.pz_bind_rules.specs.pz_syntax.Classes.{DeclTree, ModelTree}
+use Rattle.pz_bind_rules.specs.pz_classes_rules.Numbers.{declaration}
+use Rattle.pz_bind_rules.specs.pz_classes_rules.Kinds.{is_process}
 use Rattle.pz_classes.specs.declared.classes.Classes.{Classes}
 use Rattle.pz_classes.specs.devices.Rows.{Row, rows_from, row_view, AreClasses}
-use Rattle.pz_classes.specs.Members.{ports, spelled}
-use Rattle.pz_classes.specs.SoundClasses.{ClassesFit}
+use Rattle.pz_bind_rules.specs.pz_classes_rules.Members.{ports, spelled}
+use Rattle.pz_bind_rules.specs.pz_classes_rules.SoundClasses.{ClassesFit}
 use Rattle.pz_bind_levels.specs.declared.expansion.Process.{Process}
 use Rattle.pz_bind_levels.specs.declared.expansion.Expansion.{Expansion}
 use Rattle.pz_bind_levels.specs.Layouts.{Layout, AreLinked}
@@ -20,20 +20,20 @@ use Rattle.pz_bind_levels.specs.Connections as numbers
 use Rattle.pz_bind_levels.specs.devices.Expanded.{StandsAt, IsExpansion}
 use Rattle.pz_bind_levels.proofs.Each.{there}
 use Rattle.pz_bind_levels.specs.devices.Walking.{layouts_of}
-use Rattle.pz_bind.specs.Nest.{system_class, class_at, is_process_at, places, processes}
-use Rattle.pz_bind.specs.Connections.{end, IsInNone}
-use Rattle.pz_bind.specs.Wires.{wires, HasWire}
-use Rattle.pz_bind.specs.Names.{wire_name}
+use Rattle.pz_bind_rules.specs.Nest.{system_class, class_at, is_process_at, places, processes}
+use Rattle.pz_bind_rules.specs.Connections.{end, IsInNone}
+use Rattle.pz_bind_rules.specs.Wires.{wires, HasWire}
+use Rattle.pz_bind_rules.specs.Names.{wire_name}
 use Rattle.pz_bind.specs.devices.Nets.{node_at, IsNet}
 use Rattle.pz_bind.specs.declared.net.Net.{Net}
 use Rattle.pz_bind.specs.declared.net.Node.{Node}
-use Rattle.pz_bind.specs.devices.Layouts.{layouts}
-use Rattle.pz_bind.proofs.Lists.{AreOnce, ids_once, map_at}
-use Rattle.pz_bind.proofs.Spots.{spot_at, processes_are}
+use Rattle.pz_bind_rules.specs.devices.Layouts.{layouts}
+use Rattle.pz_bind_rules.proofs.Lists.{AreOnce, ids_once, map_at}
+use Rattle.pz_bind_rules.proofs.Spots.{spot_at, processes_are}
 use Rattle.pz_bind.proofs.Placed.{filtered_passes}
-use Rattle.pz_bind.proofs.Layouts.{are_linked}
-use Rattle.pz_bind.proofs.Ends.{numbered}
-use Rattle.pz_bind.proofs.Wired.{has_wire, in_none}
+use Rattle.pz_bind_rules.proofs.Layouts.{are_linked}
+use Rattle.pz_bind_rules.proofs.Ends.{numbered}
+use Rattle.pz_bind_rules.proofs.Wired.{has_wire, in_none}
 
 pub ports_once : (m : ModelTree) → ClassesFit m → (k : ℕ) → AreOnce (spelled (ports m k))
 ports_once m fits k = ids_once (ports m k) (fits.ports_apart k)

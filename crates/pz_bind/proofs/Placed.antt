@@ -3,9 +3,9 @@ use Rattle.std.proofs.Common.{◌≡◌, refl, sym, ap, ◌∙◌, subst, ℕ, z
 use Rattle.std.specs.List.{filter}
 use Rattle.std.proofs.lemmas.List.{length-map}
 use Rattle.std.proofs.lemmas.Option.{slice_get_within}
-use Rattle.pz_syntax.specs.Classes.{ModelTree}
-use Rattle.pz_classes.specs.Members.{ports, spelled}
-use Rattle.pz_classes.specs.SoundSystem.{SystemFits}
+use Rattle.pz_bind_rules.specs.pz_syntax.Classes.{ModelTree}
+use Rattle.pz_bind_rules.specs.pz_classes_rules.Members.{ports, spelled}
+use Rattle.pz_bind_rules.specs.pz_classes_rules.SoundSystem.{SystemFits}
 use Rattle.pz_bind_levels.specs.declared.expansion.Standing.{Standing}
 use Rattle.pz_bind_levels.specs.declared.expansion.Process.{Process}
 use Rattle.pz_bind_levels.specs.declared.expansion.Expansion.{Expansion}
@@ -13,13 +13,13 @@ use Rattle.pz_bind_levels.specs.Places.{Address, Spot}
 use Rattle.pz_bind_levels.specs.Places as by_number
 use Rattle.pz_bind_levels.specs.Wires.{Channel}
 use Rattle.pz_bind_levels.specs.devices.Expanded.{StandsAt, at_top, in_level, IsExpansion}
-use Rattle.pz_bind.specs.Nest.{system_class, class_at, instances_at, inside, is_level, is_process_at, places, levels, processes}
-use Rattle.pz_bind.specs.devices.Layouts.{layouts}
+use Rattle.pz_bind_rules.specs.Nest.{system_class, class_at, instances_at, inside, is_level, is_process_at, places, levels, processes}
+use Rattle.pz_bind_rules.specs.devices.Layouts.{layouts}
 use Rattle.pz_bind.specs.devices.Sites.{LevelAt, the_system, a_cluster, AreLevels}
 use Rattle.pz_bind.specs.devices.Processes.{AreProcesses, IsProcessAt, AreWires}
-use Rattle.pz_bind.proofs.Lists.{AreOnce, map_at, map_there}
-use Rattle.pz_bind.proofs.Spots.{spot_at, levels_are, processes_are, all_stand, more_stand}
-use Rattle.pz_bind.proofs.Wired.{wires_are}
+use Rattle.pz_bind_rules.proofs.Lists.{AreOnce, map_at, map_there}
+use Rattle.pz_bind_rules.proofs.Spots.{spot_at, levels_are, processes_are, all_stand, more_stand}
+use Rattle.pz_bind_rules.proofs.Wired.{wires_are}
 
 -- what passes a test stood there before
 filtered_there : {A : Type 0} (f : A → Bool) (xs : List A) (n : ℕ) (x : A) → slice_get (filter f xs) n ≡ Some x → (k : ℕ) × (slice_get xs k ≡ Some x)

@@ -5,21 +5,21 @@ use Rattle.std.specs.Option.{option_or, option_and_then, option_map, option_map_
 use Rattle.std.specs.List.{flat_map}
 use Rattle.std.proofs.lemmas.List.{drop_all, map-append}
 use Rattle.std.proofs.lemmas.Option.{slice_get-map}
-use Rattle.pz_syntax.specs.declared.clusters.Instance.{Instance}
-use Rattle.pz_syntax.specs.declared.clusters.Channel.{Channel as Written}
-use Rattle.pz_syntax.specs.declared.clusters.ChannelEnd.{ChannelEnd}
-use Rattle.pz_syntax.specs.declared.clusters.Decl.{Decl}
-use Rattle.pz_syntax.specs.Classes.{DeclTree, ModelTree}
-use Rattle.pz_syntax.specs.ClassView.{decl_view}
-use Rattle.pz_classes.specs.Instances.{instances}
-use Rattle.pz_classes.specs.Numbers.{declaration}
-use Rattle.pz_classes.specs.SoundNumbers.{NumbersFit}
+use Rattle.pz_bind_rules.specs.pz_syntax.declared.clusters.Instance.{Instance}
+use Rattle.pz_bind_rules.specs.pz_syntax.declared.clusters.Channel.{Channel as Written}
+use Rattle.pz_bind_rules.specs.pz_syntax.declared.clusters.ChannelEnd.{ChannelEnd}
+use Rattle.pz_bind_rules.specs.pz_syntax.declared.clusters.Decl.{Decl}
+use Rattle.pz_bind_rules.specs.pz_syntax.Classes.{DeclTree, ModelTree}
+use Rattle.pz_bind_rules.specs.pz_syntax.ClassView.{decl_view}
+use Rattle.pz_bind_rules.specs.pz_classes_rules.Instances.{instances}
+use Rattle.pz_bind_rules.specs.pz_classes_rules.Numbers.{declaration}
+use Rattle.pz_bind_rules.specs.pz_classes_rules.SoundNumbers.{NumbersFit}
 use Rattle.pz_bind_levels.specs.declared.plan.LevelPart.{LevelPart}
 use Rattle.pz_bind_levels.specs.Layouts.{Layout}
-use Rattle.pz_bind.specs.Nest.{instances_in, class_of}
-use Rattle.pz_bind.specs.devices.Layouts.{part_of, port_number, port_of, linked_by, link_of, links_from, class_layout, layouts_from}
+use Rattle.pz_bind_rules.specs.Nest.{instances_in, class_of}
+use Rattle.pz_bind_rules.specs.devices.Layouts.{part_of, port_number, port_of, linked_by, link_of, links_from, class_layout, layouts_from}
 use Rattle.pz_bind.proofs.Gets.{one_more}
-use Rattle.pz_bind.proofs.Linked.{linked_append, or_assoc}
+use Rattle.pz_bind_rules.proofs.Linked.{linked_append, or_assoc}
 
 pub or_none : {A : Type 0} (o : Option A) → option_or o None ≡ o
 or_none None = refl

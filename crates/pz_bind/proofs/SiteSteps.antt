@@ -5,12 +5,12 @@ use Rattle.std.specs.Fmt.{decimal}
 use Rattle.std.specs.Option.{option_map_or, unwrap_or}
 use Rattle.std.proofs.lemmas.List.{map-append}
 use Rattle.std.proofs.lemmas.Option.{slice_get_within, slice_get-get_or, get_or_from_slice_get}
-use Rattle.pz_syntax.specs.declared.clusters.Instance.{Instance}
-use Rattle.pz_syntax.specs.Classes.{ModelTree}
-use Rattle.pz_value.specs.declared.value.Value.{Value}
-use Rattle.pz_value.specs.declared.value.Value.TheVariants.{Nil}
-use Rattle.pz_classes.specs.Members.{variables, spelled}
-use Rattle.pz_classes.specs.Tables.{class_id}
+use Rattle.pz_bind_rules.specs.pz_syntax.declared.clusters.Instance.{Instance}
+use Rattle.pz_bind_rules.specs.pz_syntax.Classes.{ModelTree}
+use Rattle.pz_bind_rules.specs.pz_value.declared.value.Value.{Value}
+use Rattle.pz_bind_rules.specs.pz_value.declared.value.Value.TheVariants.{Nil}
+use Rattle.pz_bind_rules.specs.pz_classes_rules.Members.{variables, spelled}
+use Rattle.pz_bind_rules.specs.pz_classes_rules.ClassNames.{class_id}
 use Rattle.pz_bind_levels.specs.declared.expansion.Standing.{Standing}
 use Rattle.pz_bind_levels.specs.declared.expansion.Level.{Level}
 use Rattle.pz_bind_levels.specs.declared.expansion.Process.{Process}
@@ -18,10 +18,10 @@ use Rattle.pz_bind_levels.specs.declared.expansion.Wire.{Wire}
 use Rattle.pz_bind_levels.specs.Places.{Address}
 use Rattle.pz_bind_levels.specs.Wires.{Channel}
 use Rattle.pz_bind_levels.proofs.Each.{there, pushed, partner}
-use Rattle.pz_bind.specs.Nest.{instances_in, class_at, instance_at, levels, processes}
-use Rattle.pz_bind.specs.Names.{path, wire_name}
-use Rattle.pz_bind.specs.Values.{given_value, parameter_at, values_at}
-use Rattle.pz_bind.specs.Wires.{wires}
+use Rattle.pz_bind_rules.specs.Nest.{instances_in, class_at, instance_at, levels, processes}
+use Rattle.pz_bind_rules.specs.Names.{path, wire_name}
+use Rattle.pz_bind_rules.specs.Values.{given_value, parameter_at, values_at}
+use Rattle.pz_bind_rules.specs.Wires.{wires}
 use Rattle.pz_bind.specs.devices.Nets.{node_at}
 use Rattle.pz_bind.specs.declared.bindings.Bindings.{Bindings}
 use Rattle.pz_bind.specs.declared.sites.Site.{Site}

@@ -1,4 +1,3 @@
-pub mod Layouts
 pub mod Namings
 pub mod Bindings
 pub mod Sites

@@ -3,15 +3,15 @@
 ghost use Rattle.std.specs.Prelude.{◌≡◌, ◌<◌, List, ℕ, None, Some, [], length, map, get_or, IfOk, OnOk, if◌then◌else◌};
 ghost use Rattle.std.specs.Option.{option_copied, option_or, unwrap_or};
 ghost use Rattle.std.specs.Str.{bytes_eq};
-ghost use Rattle.pz_classes_code.specs.devices.Above.{names_above};
-ghost use Rattle.pz_bind.specs.Values as spec;
+ghost use Rattle.pz_bind_rules.specs.pz_classes_code.devices.Above.{names_above};
+ghost use Rattle.pz_bind_rules.specs.Values as spec;
 ghost use Rattle.pz_bind.specs.devices.Bindings.{meaning_value, bound_in, value_in};
 
 use indexmap::IndexMap;
-use pz_classes_code::{NameFront, constant};
-use pz_items::Items;
-use pz_syntax::{Arg, Given, Instance, Literal};
-use pz_value::Value;
+use pz_bind_rules::pz_classes_code::{NameFront, constant};
+use pz_bind_rules::pz_items::Items;
+use pz_bind_rules::pz_syntax::{Arg, Given, Instance, Literal};
+use pz_bind_rules::pz_value::Value;
 use std::alloc::{AllocError, Global};
 
 /// What a parameter is given, handed down from where it is written. `Negated` has the integer behind

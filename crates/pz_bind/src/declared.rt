@@ -3,30 +3,30 @@
 
 ghost use Rattle.std.specs.Prelude.{◌≡◌};
 ghost use Rattle.std.specs.Option.{option_copied, option_map};
-ghost use Rattle.pz_syntax.specs.ClassView.{decl_view};
-ghost use Rattle.pz_classes_code.specs.devices.Above.{names_above};
+ghost use Rattle.pz_bind_rules.specs.pz_syntax.ClassView.{decl_view};
+ghost use Rattle.pz_bind_rules.specs.pz_classes_code.devices.Above.{names_above};
 ghost use Rattle.pz_classes.specs.CheckedView.{checked_model};
-ghost use Rattle.pz_classes.specs.Members as members;
-ghost use Rattle.pz_classes.specs.Members.{spelled};
-ghost use Rattle.pz_classes.specs.Numbers as numbers;
-ghost use Rattle.pz_classes.specs.SoundClasses.{ClassesFit};
-ghost use Rattle.pz_classes.specs.SoundNumbers.{NumbersFit};
-ghost use Rattle.pz_classes.specs.SoundSystem.{SystemFits};
-ghost use Rattle.pz_bind.specs.Nest as spec;
-ghost use Rattle.pz_bind.specs.devices.Layouts as layouts;
+ghost use Rattle.pz_bind_rules.specs.pz_classes_rules.Members as members;
+ghost use Rattle.pz_bind_rules.specs.pz_classes_rules.Members.{spelled};
+ghost use Rattle.pz_bind_rules.specs.pz_classes_rules.Numbers as numbers;
+ghost use Rattle.pz_bind_rules.specs.pz_classes_rules.SoundClasses.{ClassesFit};
+ghost use Rattle.pz_bind_rules.specs.pz_classes_rules.SoundNumbers.{NumbersFit};
+ghost use Rattle.pz_bind_rules.specs.pz_classes_rules.SoundSystem.{SystemFits};
+ghost use Rattle.pz_bind_rules.specs.Nest as spec;
+ghost use Rattle.pz_bind_rules.specs.devices.Layouts as layouts;
 
+use pz_bind_rules::pz_classes_code::NameFront;
+use pz_bind_rules::pz_syntax::{Channel, Decl, Instance};
+use pz_bind_rules::pz_value::ClassId;
 use pz_classes::{Checked, channels_of, class_of_instance, instances_of, is_cluster};
-use pz_classes_code::NameFront;
-use pz_syntax::{Channel, Decl, Instance};
-use pz_value::ClassId;
 
 /// A checked model is sound: what that says of its system and its classes. Does nothing when it runs.
 pub(crate) fn is_sound(checked: &Checked)
     ensures system { SystemFits (checked_model checked.now) }
     ensures classes { ClassesFit (checked_model checked.now) }
 {
-    pz_classes::laws::sound_systems_fit();
-    pz_classes::laws::sound_classes_fit();
+    pz_bind_rules::pz_classes_rules::laws::sound_systems_fit();
+    pz_bind_rules::pz_classes_rules::laws::sound_classes_fit();
     let _model = checked.model();
 }
 
@@ -34,7 +34,7 @@ pub(crate) fn is_sound(checked: &Checked)
 pub(crate) fn is_numbered(checked: &Checked)
     ensures { NumbersFit (checked_model checked.now) }
 {
-    pz_classes::laws::sound_numbers_fit();
+    pz_bind_rules::pz_classes_rules::laws::sound_numbers_fit();
     let _model = checked.model();
 }
 

@@ -3,7 +3,6 @@
 
 mod bindings;
 mod declared;
-pub mod laws;
 mod naming;
 mod net;
 mod nodes;
@@ -11,4 +10,6 @@ mod plans;
 mod sites;
 
 pub use net::Net;
-pub use pz_value::{ClassId, Value};
+pub use pz_bind_rules::pz_value::{ClassId, Value};
+pub use pz_bind_rules::{pz_classes_code, pz_classes_rules, pz_items, pz_syntax, pz_value};
+pub use pz_classes;

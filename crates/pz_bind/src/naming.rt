@@ -3,18 +3,18 @@
 ghost use Rattle.std.specs.Prelude.{◌≡◌, ◌<◌, ◌^◌, ℕ, List, None, length, IfOk, OnOk};
 ghost use Rattle.std.specs.Option.{option_or};
 ghost use Rattle.std.specs.List.{flat_map};
-ghost use Rattle.pz_syntax.specs.declared.clusters.Instance.{Instance as Stood};
-ghost use Rattle.pz_syntax.specs.Classes.{ModelTree};
-ghost use Rattle.pz_classes_code.specs.NumberIn.{number_in};
+ghost use Rattle.pz_bind_rules.specs.pz_syntax.declared.clusters.Instance.{Instance as Stood};
+ghost use Rattle.pz_bind_rules.specs.pz_syntax.Classes.{ModelTree};
+ghost use Rattle.pz_bind_rules.specs.pz_classes_code.NumberIn.{number_in};
 ghost use Rattle.pz_bind_levels.specs.devices.Walking.{linked_in};
-ghost use Rattle.pz_bind.specs.devices.Layouts.{instance_number, port_of, linked_by, link_of, links_from};
+ghost use Rattle.pz_bind_rules.specs.devices.Layouts.{instance_number, port_of, linked_by, link_of, links_from};
 ghost use Rattle.pz_bind.specs.devices.Namings.{IsNaming};
 
 use crate::declared::port_in;
 use pz_bind_levels::{LevelPart, Links};
+use pz_bind_rules::pz_classes_code::Numbering;
+use pz_bind_rules::pz_syntax::{Channel, ChannelEnd, Instance};
 use pz_classes::Checked;
-use pz_classes_code::Numbering;
-use pz_syntax::{Channel, ChannelEnd, Instance};
 use std::alloc::{AllocError, Global};
 
 /// The number of each of these instances by its name, from 0; the first of a name counts. The only

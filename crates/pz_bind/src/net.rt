@@ -1,31 +1,32 @@
 ghost use Rattle.std.specs.Prelude.{◌≡◌, ◌<◌, ◌≤◌, ◌^◌, ℕ, List, length, IfOk, IfSome, IsTrue, MatchOption, Some, false, slice_get};
 ghost use Rattle.std.specs.Option.{option_map_or};
-ghost use Rattle.pz_syntax.specs.Classes.{ModelTree};
+ghost use Rattle.pz_bind_rules.specs.pz_syntax.Classes.{ModelTree};
 ghost use Rattle.pz_classes.specs.CheckedView.{checked_model};
-ghost use Rattle.pz_classes.specs.Members.{ports, spelled};
-ghost use Rattle.pz_classes.specs.Kinds.{is_process};
-ghost use Rattle.pz_classes.specs.Numbers.{declaration};
+ghost use Rattle.pz_bind_rules.specs.pz_classes_rules.Members.{ports, spelled};
+ghost use Rattle.pz_bind_rules.specs.pz_classes_rules.Kinds.{is_process};
+ghost use Rattle.pz_bind_rules.specs.pz_classes_rules.Numbers.{declaration};
 ghost use Rattle.pz_classes.specs.declared.classes.Classes.{Classes as Table};
-ghost use Rattle.pz_classes.specs.Tables.{HasClass, class_id};
+ghost use Rattle.pz_bind_rules.specs.pz_classes_rules.ClassNames.{class_id};
+ghost use Rattle.pz_classes.specs.Tables.{HasClass};
 ghost use Rattle.pz_classes.specs.devices.Rows.{AreClasses};
 ghost use Rattle.pz_bind_levels.specs.Places.{Address};
 ghost use Rattle.pz_bind_levels.specs.Wires.{Channel};
-ghost use Rattle.pz_bind.specs.Nest as nest;
-ghost use Rattle.pz_bind.specs.Names as names;
-ghost use Rattle.pz_bind.specs.Values as values;
-ghost use Rattle.pz_bind.specs.Connections.{end, IsInNone};
-ghost use Rattle.pz_bind.specs.Wires as wires;
-ghost use Rattle.pz_bind.specs.Wires.{HasWire};
+ghost use Rattle.pz_bind_rules.specs.Nest as nest;
+ghost use Rattle.pz_bind_rules.specs.Names as names;
+ghost use Rattle.pz_bind_rules.specs.Values as values;
+ghost use Rattle.pz_bind_rules.specs.Connections.{end, IsInNone};
+ghost use Rattle.pz_bind_rules.specs.Wires as wires;
+ghost use Rattle.pz_bind_rules.specs.Wires.{HasWire};
 
 use crate::declared::{is_sound, system_class};
 use crate::nodes::{nodes_of, wire_names_of};
 use crate::plans::plans_of;
 use crate::sites::sites_of;
 use pz_bind_levels::{Expansion, Plan, expand};
+use pz_bind_rules::pz_items::Items;
+use pz_bind_rules::pz_syntax::Name;
+use pz_bind_rules::pz_value::{ClassId, Value};
 use pz_classes::Checked;
-use pz_items::Items;
-use pz_syntax::Name;
-use pz_value::{ClassId, Value};
 use std::alloc::{AllocError, Global};
 
 /// A process: its path, its class, and the values that its variables have at first.

@@ -4,10 +4,10 @@ ghost use Rattle.std.specs.Prelude.{◌≡◌, ◌<◌, ◌++◌, suc, codes, le
 ghost use Rattle.std.specs.Fmt.{decimal};
 ghost use Rattle.pz_classes.specs.CheckedView.{checked_model};
 ghost use Rattle.pz_bind_levels.specs.Places.{Address};
-ghost use Rattle.pz_bind.specs.Nest.{class_at, levels};
-ghost use Rattle.pz_bind.specs.Nest as nest;
-ghost use Rattle.pz_bind.specs.Names as spec_names;
-ghost use Rattle.pz_bind.specs.Wires as spec_wires;
+ghost use Rattle.pz_bind_rules.specs.Nest.{class_at, levels};
+ghost use Rattle.pz_bind_rules.specs.Nest as nest;
+ghost use Rattle.pz_bind_rules.specs.Names as spec_names;
+ghost use Rattle.pz_bind_rules.specs.Wires as spec_wires;
 ghost use Rattle.pz_bind.specs.devices.Nets.{node_at};
 ghost use Rattle.pz_bind.specs.devices.Sites.{AreSites, IsPlaced, StandsIn};
 ghost use Rattle.pz_bind.specs.declared.sites.Site.{Site as Known};
@@ -17,10 +17,10 @@ use crate::declared::variables_of;
 use crate::net::Node;
 use crate::sites::Site;
 use pz_bind_levels::{Process, Wire};
+use pz_bind_rules::pz_items::Items;
+use pz_bind_rules::pz_syntax::Name;
+use pz_bind_rules::pz_value::ClassId;
 use pz_classes::Checked;
-use pz_items::Items;
-use pz_syntax::Name;
-use pz_value::ClassId;
 use std::alloc::{AllocError, Global};
 
 /// A process. The only error is want of memory.

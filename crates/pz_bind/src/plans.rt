@@ -1,21 +1,21 @@
 // What stands in a level of each class, by numbers.
 
 ghost use Rattle.std.specs.Prelude.{◌≡◌, ◌<◌, ◌^◌, ℕ, length, map, IfOk};
-ghost use Rattle.pz_syntax.specs.declared.clusters.Channel.{Channel as Written};
+ghost use Rattle.pz_bind_rules.specs.pz_syntax.declared.clusters.Channel.{Channel as Written};
 ghost use Rattle.pz_classes.specs.CheckedView.{checked_model};
-ghost use Rattle.pz_classes.specs.SoundNumbers.{NumbersFit};
+ghost use Rattle.pz_bind_rules.specs.pz_classes_rules.SoundNumbers.{NumbersFit};
 ghost use Rattle.pz_bind_levels.specs.devices.Walking.{layout_of, layouts_of, linked_in};
-ghost use Rattle.pz_bind.specs.devices.Layouts as spec;
-ghost use Rattle.pz_bind.specs.devices.Layouts.{class_layout, layouts, linked_by, links_from};
+ghost use Rattle.pz_bind_rules.specs.devices.Layouts as spec;
+ghost use Rattle.pz_bind_rules.specs.devices.Layouts.{class_layout, layouts, linked_by, links_from};
 
 use crate::declared::{
     channels_in, class_of, instances_in, is_cluster_class, is_numbered, port_in,
 };
 use crate::naming::{Naming, number_instances};
 use pz_bind_levels::{LevelPart, Links, Plan};
+use pz_bind_rules::pz_items::Items;
+use pz_bind_rules::pz_syntax::{Channel, ChannelEnd, Instance};
 use pz_classes::Checked;
-use pz_items::Items;
-use pz_syntax::{Channel, ChannelEnd, Instance};
 use std::alloc::{AllocError, Global};
 
 /// An instance by the number of its class.

@@ -3,17 +3,17 @@
 ghost use Rattle.std.specs.Prelude.{◌≡◌, ◌<◌, ◌++◌, codes, length, IfOk, if◌then◌else◌, slice_get, Some};
 ghost use Rattle.pz_classes.specs.CheckedView.{checked_model};
 ghost use Rattle.pz_bind_levels.specs.Places.{Address};
-ghost use Rattle.pz_bind.specs.Nest as nest;
-ghost use Rattle.pz_bind.specs.Nest.{class_at};
+ghost use Rattle.pz_bind_rules.specs.Nest as nest;
+ghost use Rattle.pz_bind_rules.specs.Nest.{class_at};
 ghost use Rattle.pz_bind.specs.devices.Sites.{IsSite, IsPlaced, StandsIn, below};
 ghost use Rattle.pz_bind.specs.devices.Sites as spec;
 
 use crate::bindings::Bindings;
 use crate::declared::instances_in;
 use pz_bind_levels::{Level, Standing};
+use pz_bind_rules::pz_items::Items;
+use pz_bind_rules::pz_syntax::{Instance, Name};
 use pz_classes::Checked;
-use pz_items::Items;
-use pz_syntax::{Instance, Name};
 use std::alloc::{AllocError, Global};
 
 /// A level: the system or a cluster.

@@ -1,18 +1,18 @@
 -- What single searches find, joined.
 use Rattle.std.proofs.Common.{◌≡◌, true, Option, Some, None, ◌⊎◌, inl, inr}
 use Rattle.std.specs.Option.{is_some}
-use Rattle.pz_syntax.specs.declared.tokens.Pos.{Pos}
-use Rattle.pz_syntax.specs.Classes.{ModelTree}
-use Rattle.pz_check_violations.specs.declared.violation.Violation.{Violation}
-use Rattle.pz_check_violations.specs.Order.{violation}
-use Rattle.pz_check_violations.specs.Least.{LeastOf, sooner}
-use Rattle.pz_check_violations.proofs.TwoLeasts.{sooner_is_least}
-use Rattle.pz_classes.specs.WordRules.{BreaksWord}
-use Rattle.pz_classes.specs.RepeatRules.{BreaksC4}
-use Rattle.pz_classes.specs.InstanceRules.{BreaksC14, BreaksC15}
-use Rattle.pz_classes.specs.ChannelRules.{BreaksC16, BreaksC17}
-use Rattle.pz_classes.specs.SizeRules.{BreaksC19, BreaksC20, HasNoSize, by_class, by_name, by_holding, by_system, too_large}
-use Rattle.pz_classes.specs.Soundness.{Breaks, a_word, a_repeat, given, holding, an_end, two_ends, size, the_system}
+use Rattle.pz_classes.specs.pz_syntax.declared.tokens.Pos.{Pos}
+use Rattle.pz_classes.specs.pz_syntax.Classes.{ModelTree}
+use Rattle.pz_classes.specs.pz_check_violations.declared.violation.Violation.{Violation}
+use Rattle.pz_classes.specs.pz_check_violations.Order.{violation}
+use Rattle.pz_classes.specs.pz_check_violations.Least.{LeastOf, sooner}
+use Rattle.pz_classes.proofs.pz_check_violations_proofs.TwoLeasts.{sooner_is_least}
+use Rattle.pz_classes.specs.pz_classes_rules.WordRules.{BreaksWord}
+use Rattle.pz_classes.specs.pz_classes_rules.RepeatRules.{BreaksC4}
+use Rattle.pz_classes.specs.pz_classes_rules.InstanceRules.{BreaksC14, BreaksC15}
+use Rattle.pz_classes.specs.pz_classes_rules.ChannelRules.{BreaksC16, BreaksC17}
+use Rattle.pz_classes.specs.pz_classes_rules.SizeRules.{BreaksC19, BreaksC20, HasNoSize, by_class, by_name, by_holding, by_system, too_large}
+use Rattle.pz_classes.specs.pz_classes_rules.Soundness.{Breaks, a_word, a_repeat, given, holding, an_end, two_ends, size, the_system}
 use Rattle.pz_check.specs.Together.{BreaksSize}
 
 -- the least of the same violations

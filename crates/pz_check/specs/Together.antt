@@ -1,9 +1,9 @@
 -- Rules that are asked together, and what a refusal says.
 use Rattle.std.specs.Prelude.{◌⊎◌}
-use Rattle.pz_syntax.specs.Classes.{ModelTree}
-use Rattle.pz_check_violations.specs.declared.violation.Violation.{Violation}
-use Rattle.pz_classes.specs.InstanceRules.{BreaksC15}
-use Rattle.pz_classes.specs.SizeRules.{BreaksC19, BreaksC20}
+use Rattle.pz_classes.specs.pz_syntax.Classes.{ModelTree}
+use Rattle.pz_classes.specs.pz_check_violations.declared.violation.Violation.{Violation}
+use Rattle.pz_classes.specs.pz_classes_rules.InstanceRules.{BreaksC15}
+use Rattle.pz_classes.specs.pz_classes_rules.SizeRules.{BreaksC19, BreaksC20}
 use Rattle.pz_check.specs.declared.error.CheckError.{CheckError}
 use Rattle.pz_check.specs.declared.error.CheckError.TheVariants.{NoMemory, Refused}
 

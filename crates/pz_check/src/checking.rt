@@ -1,14 +1,14 @@
 // All rules together.
 
 ghost use Rattle.std.specs.Prelude.{◌≡◌, IfOk, IfErr};
-ghost use Rattle.pz_syntax.specs.ClassView.{model_view};
-ghost use Rattle.pz_syntax.specs.ModelText.{HasFewMarks};
-ghost use Rattle.pz_check_violations.specs.declared.violation.Violation.{Violation as Found};
-ghost use Rattle.pz_check_violations.specs.Order.{IsLeast};
-ghost use Rattle.pz_check_violations.specs.Least.{LeastOf};
+ghost use Rattle.pz_classes.specs.pz_syntax.ClassView.{model_view};
+ghost use Rattle.pz_classes.specs.pz_syntax.ModelText.{HasFewMarks};
+ghost use Rattle.pz_classes.specs.pz_check_violations.declared.violation.Violation.{Violation as Found};
+ghost use Rattle.pz_classes.specs.pz_check_violations.Order.{IsLeast};
+ghost use Rattle.pz_classes.specs.pz_check_violations.Least.{LeastOf};
 ghost use Rattle.pz_classes.specs.devices.Rows.{AreClasses};
-ghost use Rattle.pz_classes.specs.Violations.{Violates};
-ghost use Rattle.pz_classes.specs.Soundness.{Breaks};
+ghost use Rattle.pz_classes.specs.pz_classes_rules.Violations.{Violates};
+ghost use Rattle.pz_classes.specs.pz_classes_rules.Soundness.{Breaks};
 ghost use Rattle.pz_classes.specs.CheckedView.{checked_model, checked_classes};
 ghost use Rattle.pz_check.specs.Together.{OnRefused};
 
@@ -17,9 +17,9 @@ use crate::size::least_of_size;
 use pz_check_duplicates::{least_double_end, least_repeat};
 use pz_check_instances::{least_ill_given, least_missing_end};
 use pz_check_names::least_misuse;
-use pz_check_violations::{Violation, sooner};
+use pz_classes::pz_check_violations::{Violation, sooner};
+use pz_classes::pz_syntax::Model;
 use pz_classes::{Checked, Classes};
-use pz_syntax::Model;
 use std::alloc::{AllocError, Global};
 use std::mem::drop;
 

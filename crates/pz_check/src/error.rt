@@ -1,4 +1,4 @@
-use pz_check_violations::Violation;
+use pz_classes::pz_check_violations::Violation;
 use std::alloc::AllocError;
 
 /// Why a model is not accepted.

@@ -1,19 +1,19 @@
 // The rules on the system and on what stands in it: C15, C20 and, where they hold, C19.
 
 ghost use Rattle.std.specs.Prelude.{IfOk};
-ghost use Rattle.pz_syntax.specs.ClassView.{model_view};
-ghost use Rattle.pz_check_violations.specs.Least.{LeastOf};
-ghost use Rattle.pz_classes.specs.InstanceRules.{BreaksC15};
-ghost use Rattle.pz_classes.specs.SizeRules.{BreaksC19, BreaksC20};
+ghost use Rattle.pz_classes.specs.pz_syntax.ClassView.{model_view};
+ghost use Rattle.pz_classes.specs.pz_check_violations.Least.{LeastOf};
+ghost use Rattle.pz_classes.specs.pz_classes_rules.InstanceRules.{BreaksC15};
+ghost use Rattle.pz_classes.specs.pz_classes_rules.SizeRules.{BreaksC19, BreaksC20};
 ghost use Rattle.pz_classes.specs.devices.Rows.{AreClasses};
 ghost use Rattle.pz_check.specs.Together.{BreaksSize};
 
 use pz_check_duplicates::least_system;
 use pz_check_names::has_unsized_words;
 use pz_check_size::{least_holding, oversized};
-use pz_check_violations::{Violation, sooner};
 use pz_classes::Classes;
-use pz_syntax::Model;
+use pz_classes::pz_check_violations::{Violation, sooner};
+use pz_classes::pz_syntax::Model;
 use std::alloc::{AllocError, Global};
 
 /// The violation of C19, if there is one. The other two are the least violations of C15 and C20: a

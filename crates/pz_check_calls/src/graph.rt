@@ -1,5 +1,5 @@
-use pz_items::Items;
 use pz_syntax::Pos;
+use pz_syntax::pz_items::Items;
 
 /// A call in the body of a method: the number of the called method, and the place of its name.
 #[derive(Clone, Copy, Debug, PartialEq, Eq)]

@@ -12,7 +12,7 @@ ghost use Rattle.pz_check_calls.specs.devices.LeadingBack as device;
 use crate::{Call, Method};
 use pz_check_components::components;
 use pz_check_violations::{Violation, lesser};
-use pz_items::Items;
+use pz_syntax::pz_items::Items;
 use std::alloc::{AllocError, Global};
 
 const BEGINS_WITH_ITSELF: u8 = 23;

@@ -1,7 +1,7 @@
 -- Things of which any two repeat one another.
 use Rattle.std.proofs.Common.{◌≡◌, refl, ap, ◌∙◌, ℕ, Bool, true, List, [], ◌∷◌, map}
-use Rattle.pz_syntax.specs.declared.tokens.Pos.{Pos}
-use Rattle.pz_syntax.specs.declared.clusters.SystemDecl.{SystemDecl}
+use Rattle.pz_classes.specs.pz_syntax.declared.tokens.Pos.{Pos}
+use Rattle.pz_classes.specs.pz_syntax.declared.clusters.SystemDecl.{SystemDecl}
 use Rattle.pz_check_duplicates.specs.declared.places.Alike.{Alike}
 use Rattle.pz_check_duplicates.specs.declared.places.Thing.{Thing}
 use Rattle.pz_check_duplicates.specs.devices.Again.{same_key, thing_place, repeats}

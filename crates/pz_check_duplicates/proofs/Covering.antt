@@ -2,13 +2,13 @@
 -- is a repeat, and no repeat is before all of them.
 use Rattle.std.proofs.Common.{◌≡◌, ◌≢◌, refl, sym, subst, ap, ◌∙◌, ℕ, ◌<◌, Bool, true, false, IsTrue, List, [], ◌∷◌, ◌++◌, append-nil, append_assoc, length, Option, Some, None, slice_get, arith, ◌⊎◌, inl, inr}
 use Rattle.std.proofs.lemmas.Option.{slice_get_within}
-use Rattle.pz_syntax.specs.declared.tokens.Pos.{Pos}
+use Rattle.pz_classes.specs.pz_syntax.declared.tokens.Pos.{Pos}
 use Rattle.pz_check_violations.specs.declared.violation.Violation.{Violation}
 use Rattle.pz_check_violations.specs.Order.{violation, pos_before}
 use Rattle.pz_check_violations.specs.Least.{Member}
 use Rattle.pz_check_violations.proofs.Order.{not_before_itself}
 use Rattle.pz_check_violations.proofs.Members.{member_left, member_right, member_cases}
-use Rattle.pz_classes.specs.RepeatRules.{Repeats}
+use Rattle.pz_classes.specs.pz_classes_rules.RepeatRules.{Repeats}
 use Rattle.pz_check_duplicates.specs.devices.Earlier.{earliest_of}
 use Rattle.pz_check_duplicates.specs.devices.Again.{later, later_of, found_in}
 use Rattle.pz_check_duplicates.proofs.Lists.{there_before, last_there, there_cases}

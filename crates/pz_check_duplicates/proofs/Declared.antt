@@ -2,8 +2,8 @@
 use Rattle.std.proofs.Common.{◌≡◌, ◌≤◌, ◌<◌, ap, ℕ, zero, suc, List, [], ◌∷◌, length, Some, slice_get, arith, ◌⊎◌, inl, inr}
 use Rattle.std.specs.List.{Contains}
 use Rattle.std.proofs.lemmas.Option.{slice_get_within}
-use Rattle.pz_syntax.specs.Classes.{DeclTree, ModelTree}
-use Rattle.pz_classes.specs.Numbers.{declaration}
+use Rattle.pz_classes.specs.pz_syntax.Classes.{DeclTree, ModelTree}
+use Rattle.pz_classes.specs.pz_classes_rules.Numbers.{declaration}
 use Rattle.pz_check_duplicates.proofs.Lists.{none_in, in_cases, at_place}
 
 -- the place of an element

@@ -1,6 +1,6 @@
 -- The earliest place of things that are alike.
 use Rattle.std.proofs.Common.{◌≡◌, refl, ℕ, zero, suc, Bool, true, false, IsTrue, List, [], ◌∷◌, ◌++◌, Option, Some, None, slice_get, if◌then◌else◌, ◌⊎◌, inl, inr}
-use Rattle.pz_syntax.specs.declared.tokens.Pos.{Pos}
+use Rattle.pz_classes.specs.pz_syntax.declared.tokens.Pos.{Pos}
 use Rattle.pz_check_violations.specs.Order.{pos_before}
 use Rattle.pz_check_duplicates.specs.devices.Earlier.{earlier, earliest_of}
 use Rattle.pz_check_duplicates.proofs.PlaceOrder.{not_before_its_own, never_sooner, not_later}

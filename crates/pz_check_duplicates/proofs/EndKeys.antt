@@ -1,10 +1,10 @@
 -- Ends by their keys.
 use Rattle.std.proofs.Common.{◌≡◌, refl, sym, ap, ◌∙◌, ℕ, Bool, false, ◌&&◌, List, map, Bor}
 use Rattle.std.specs.Str.{bytes_eq}
-use Rattle.pz_syntax.specs.declared.tokens.Pos.{Pos}
-use Rattle.pz_syntax.specs.declared.clusters.ChannelEnd.{ChannelEnd}
-use Rattle.pz_syntax.specs.declared.clusters.ChannelEnd.TheVariants.{Inner, Outer}
-use Rattle.pz_classes.specs.ChannelRules.{end_place, same_end}
+use Rattle.pz_classes.specs.pz_syntax.declared.tokens.Pos.{Pos}
+use Rattle.pz_classes.specs.pz_syntax.declared.clusters.ChannelEnd.{ChannelEnd}
+use Rattle.pz_classes.specs.pz_syntax.declared.clusters.ChannelEnd.TheVariants.{Inner, Outer}
+use Rattle.pz_classes.specs.pz_classes_rules.ChannelRules.{end_place, same_end}
 use Rattle.pz_check_duplicates.specs.declared.ends.EndKey.{EndKey}
 use Rattle.pz_check_duplicates.specs.declared.ends.EndKey.TheVariants as key
 use Rattle.pz_check_duplicates.specs.declared.places.Thing.{Thing}

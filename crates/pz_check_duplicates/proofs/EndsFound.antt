@@ -2,20 +2,20 @@
 -- them.
 use Rattle.std.proofs.Common.{◌≡◌, refl, subst, ℕ, Bool, true, false, IsTrue, [], Some, None, if◌then◌else◌, ◌⊎◌, inl, inr}
 use Rattle.std.specs.List.{flat_map}
-use Rattle.pz_syntax.specs.Classes.{DeclTree, ModelTree}
+use Rattle.pz_classes.specs.pz_syntax.Classes.{DeclTree, ModelTree}
 use Rattle.pz_check_violations.specs.declared.violation.Violation.{Violation}
 use Rattle.pz_check_violations.specs.Least.{LeastOf, least_from, Member}
 use Rattle.pz_check_violations.proofs.Members.{member_left, member_right, member_cases}
-use Rattle.pz_classes.specs.Numbers.{declaration}
-use Rattle.pz_classes.specs.Kinds.{is_cluster}
-use Rattle.pz_classes.specs.Instances.{channels}
-use Rattle.pz_classes.specs.ChannelRules.{end_place, ends, same_end, both_outer, BreaksC17, again_end, again_outer}
+use Rattle.pz_classes.specs.pz_classes_rules.Numbers.{declaration}
+use Rattle.pz_classes.specs.pz_classes_rules.Kinds.{is_cluster}
+use Rattle.pz_classes.specs.pz_classes_rules.Instances.{channels}
+use Rattle.pz_classes.specs.pz_classes_rules.ChannelRules.{end_place, ends, same_end, both_outer, BreaksC17, again_end, again_outer}
 use Rattle.pz_check_duplicates.specs.devices.Again.{repeats}
 use Rattle.pz_check_duplicates.specs.devices.EndList.{outers, of_decl, double_ends}
 use Rattle.pz_check_duplicates.proofs.Lists.{flat_member, member_flat}
 use Rattle.pz_check_duplicates.proofs.Declared.{number_of, among_declared}
 use Rattle.pz_check_duplicates.proofs.LeastCovering.{NotBehind, least_covering}
-use Rattle.pz_classes.proofs.Turned.{ends_turned, outers_turned}
+use Rattle.pz_classes.proofs.pz_classes_rules_proofs.Turned.{ends_turned, outers_turned}
 use Rattle.pz_check_duplicates.proofs.Covering.{found_sound, covers_all}
 
 module _ (m : ModelTree) where

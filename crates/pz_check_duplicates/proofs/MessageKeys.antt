@@ -1,7 +1,7 @@
 -- Messages by their keys.
 use Rattle.std.proofs.Common.{◌≡◌, refl, sym, ap, ◌∙◌, ℕ, Bool, List, map}
-use Rattle.pz_syntax.specs.declared.classes.Message.{Message}
-use Rattle.pz_classes.specs.RepeatRules.{same_message}
+use Rattle.pz_classes.specs.pz_syntax.declared.classes.Message.{Message}
+use Rattle.pz_classes.specs.pz_classes_rules.RepeatRules.{same_message}
 use Rattle.pz_check_duplicates.specs.declared.messages.MessageKey.{MessageKey}
 use Rattle.pz_check_duplicates.specs.declared.places.Thing.{Thing}
 use Rattle.pz_check_duplicates.specs.devices.Again.{same_key, thing_place, repeats}

@@ -1,8 +1,8 @@
 -- Methods by their keys.
 use Rattle.std.proofs.Common.{◌≡◌, refl, ap, ◌∙◌, ℕ, Bool, true, false, ◌&&◌, nat_eq, List, map, Bor}
 use Rattle.std.specs.Str.{bytes_eq}
-use Rattle.pz_syntax.specs.declared.tokens.Pos.{Pos}
-use Rattle.pz_classes.specs.RepeatRules.{Heading, same_heading}
+use Rattle.pz_classes.specs.pz_syntax.declared.tokens.Pos.{Pos}
+use Rattle.pz_classes.specs.pz_classes_rules.RepeatRules.{Heading, same_heading}
 use Rattle.pz_check_duplicates.specs.declared.methods.MethodKey.{MethodKey}
 use Rattle.pz_check_duplicates.specs.declared.methods.MethodKey.TheVariants as key
 use Rattle.pz_check_duplicates.specs.declared.places.Thing.{Thing}

@@ -1,8 +1,8 @@
 -- Names by their keys.
 use Rattle.std.proofs.Common.{◌≡◌, refl, ap, ◌∙◌, ℕ, Bool, List, map, Bor}
 use Rattle.std.specs.Str.{bytes_eq}
-use Rattle.pz_syntax.specs.declared.names.Id.{Id}
-use Rattle.pz_classes.specs.RepeatRules.{same_name}
+use Rattle.pz_classes.specs.pz_syntax.declared.names.Id.{Id}
+use Rattle.pz_classes.specs.pz_classes_rules.RepeatRules.{same_name}
 use Rattle.pz_check_duplicates.specs.declared.places.Thing.{Thing}
 use Rattle.pz_check_duplicates.specs.devices.Again.{same_key, thing_place, repeats}
 use Rattle.pz_check_duplicates.specs.devices.Names.{id_of, id_place}

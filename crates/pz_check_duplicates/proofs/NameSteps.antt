@@ -1,7 +1,7 @@
 -- One name further among those that a class declares.
 use Rattle.std.proofs.Common.{◌≡◌, sym, ap, ◌∙◌, ℕ, suc, ◌+◌, ◌<◌, List, [], ◌∷◌, ◌++◌, append_assoc, map, take, drop, length, get_or, drop-cons, Bor, Option, None, arith}
 use Rattle.std.proofs.lemmas.List.{map_more}
-use Rattle.pz_syntax.specs.declared.names.Id.{Id}
+use Rattle.pz_classes.specs.pz_syntax.declared.names.Id.{Id}
 use Rattle.pz_check_violations.specs.declared.violation.Violation.{Violation}
 use Rattle.pz_check_violations.specs.Least.{least_from}
 use Rattle.pz_check_violations.proofs.Leasts.{least_from_append}

@@ -1,17 +1,17 @@
 -- A walk goes on, with what is noted of the names of the open classes.
 use Rattle.std.proofs.Common.{◌≡◌, refl, sym, subst, ap, ◌∙◌, ℕ, suc, ◌-◌, ◌<◌, List, [], ◌∷◌, ◌++◌, length, map, drop, get_or, drop-cons, Bor, Option}
 use Rattle.std.proofs.lemmas.List.{length-map, drop-map}
-use Rattle.pz_syntax.specs.declared.tokens.Pos.{Pos}
-use Rattle.pz_syntax.specs.declared.names.Id.{Id}
-use Rattle.pz_syntax.specs.Classes.{ModelTree}
+use Rattle.pz_classes.specs.pz_syntax.declared.tokens.Pos.{Pos}
+use Rattle.pz_classes.specs.pz_syntax.declared.names.Id.{Id}
+use Rattle.pz_classes.specs.pz_syntax.Classes.{ModelTree}
 use Rattle.pz_check_violations.specs.declared.violation.Violation.{Violation}
 use Rattle.pz_check_violations.specs.Least.{least_from}
 use Rattle.pz_classes_lineage.specs.declared.visit.Visit.{Visit}
 use Rattle.pz_classes_lineage.specs.Preorder.{outermost}
 use Rattle.pz_check_scopes.specs.declared.nested.Nested.{Nested}
-use Rattle.pz_classes.specs.Ancestors.{ancestors}
-use Rattle.pz_classes.specs.Members.{from_root}
-use Rattle.pz_classes.specs.Preorder.{Opens}
+use Rattle.pz_classes.specs.pz_classes_rules.Ancestors.{ancestors}
+use Rattle.pz_classes.specs.pz_classes_rules.Members.{from_root}
+use Rattle.pz_classes.specs.pz_classes_rules.Preorder.{Opens}
 use Rattle.pz_check_duplicates.specs.declared.inherited.Inherited.{Inherited}
 use Rattle.pz_check_duplicates.specs.devices.Inheriting.{found_in}
 use Rattle.pz_check_duplicates.specs.devices.Knowing.{spread, Knows}

@@ -1,11 +1,11 @@
 -- The ports of a cluster class itself among ends, and where they stand.
 use Rattle.std.proofs.Common.{◌≡◌, refl, sym, ap, ◌∙◌, List, [], ◌∷◌, ◌++◌, append_assoc, append-nil, Option, None}
-use Rattle.pz_syntax.specs.declared.tokens.Pos.{Pos}
-use Rattle.pz_syntax.specs.declared.names.Id.{Id}
-use Rattle.pz_syntax.specs.declared.clusters.ChannelEnd.{ChannelEnd}
-use Rattle.pz_syntax.specs.declared.clusters.ChannelEnd.TheVariants.{Inner, Outer}
+use Rattle.pz_classes.specs.pz_syntax.declared.tokens.Pos.{Pos}
+use Rattle.pz_classes.specs.pz_syntax.declared.names.Id.{Id}
+use Rattle.pz_classes.specs.pz_syntax.declared.clusters.ChannelEnd.{ChannelEnd}
+use Rattle.pz_classes.specs.pz_syntax.declared.clusters.ChannelEnd.TheVariants.{Inner, Outer}
 use Rattle.pz_check_violations.specs.declared.violation.Violation.{Violation}
-use Rattle.pz_classes.specs.ChannelRules.{end_place, both_outer}
+use Rattle.pz_classes.specs.pz_classes_rules.ChannelRules.{end_place, both_outer}
 use Rattle.pz_check_duplicates.specs.devices.Earlier.{earlier, earliest_of}
 use Rattle.pz_check_duplicates.specs.devices.Again.{later_of, found_in, repeats}
 use Rattle.pz_check_duplicates.specs.devices.Outers.{outer_place, outer_places, any_two, itself}

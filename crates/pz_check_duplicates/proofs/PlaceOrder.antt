@@ -1,7 +1,7 @@
 -- The order of places, from that of violations.
 use Rattle.std.proofs.Common.{◌≡◌, refl, sym, ap, ◌∙◌, true≢false, ℕ, Bool, true, false, ◌&&◌, ◌||◌, nat_lt, arith}
 use Rattle.std.proofs.lemmas.Bool.Decides.{nat_tests}
-use Rattle.pz_syntax.specs.declared.tokens.Pos.{Pos}
+use Rattle.pz_classes.specs.pz_syntax.declared.tokens.Pos.{Pos}
 use Rattle.pz_check_violations.specs.Order.{violation, pos_before, pos_same, is_before}
 use Rattle.pz_check_violations.proofs.Order.{not_before_itself, never_before, not_behind}
 

@@ -1,10 +1,10 @@
 -- Repeats of a list, and what is found in two lists whose things repeat one another alike.
 use Rattle.std.proofs.Common.{◌≡◌, refl, ap, ◌∙◌, ℕ, Bool, List, [], ◌∷◌, ◌++◌, map, Option, None, if◌then◌else◌}
 use Rattle.std.proofs.lemmas.List.{map-append}
-use Rattle.pz_syntax.specs.declared.tokens.Pos.{Pos}
+use Rattle.pz_classes.specs.pz_syntax.declared.tokens.Pos.{Pos}
 use Rattle.pz_check_violations.specs.declared.violation.Violation.{Violation}
 use Rattle.pz_check_violations.specs.Order.{violation}
-use Rattle.pz_classes.specs.RepeatRules.{Repeats}
+use Rattle.pz_classes.specs.pz_classes_rules.RepeatRules.{Repeats}
 use Rattle.pz_check_duplicates.specs.devices.Earlier.{earlier, earliest_of}
 use Rattle.pz_check_duplicates.specs.devices.Again.{later_of, found_in, repeats}
 

@@ -2,21 +2,21 @@
 -- them.
 use Rattle.std.proofs.Common.{◌≡◌, refl, subst, ℕ, zero, suc, List, [], ◌++◌, length, map, Option, Some, None, ◌⊎◌, inl, inr}
 use Rattle.std.specs.List.{Contains, flat_map}
-use Rattle.pz_syntax.specs.declared.names.Id.{Id}
-use Rattle.pz_syntax.specs.declared.clusters.Instance.{Instance}
-use Rattle.pz_syntax.specs.Classes.{DeclTree, ModelTree}
+use Rattle.pz_classes.specs.pz_syntax.declared.names.Id.{Id}
+use Rattle.pz_classes.specs.pz_syntax.declared.clusters.Instance.{Instance}
+use Rattle.pz_classes.specs.pz_syntax.Classes.{DeclTree, ModelTree}
 use Rattle.pz_classes_mentions.specs.Declarations.{parts}
 use Rattle.pz_check_violations.specs.declared.violation.Violation.{Violation}
 use Rattle.pz_check_violations.specs.Order.{violation}
 use Rattle.pz_check_violations.specs.Least.{LeastOf, least_from, Member}
 use Rattle.pz_check_violations.proofs.Members.{member_left, member_right, member_cases}
 use Rattle.pz_classes_lineage.specs.declared.visit.Visit.{Visit}
-use Rattle.pz_classes.specs.Numbers.{declaration}
-use Rattle.pz_classes.specs.Ancestors.{parent, followed, ancestors}
-use Rattle.pz_classes.specs.Preorder.{IsPreorderOf}
-use Rattle.pz_classes.specs.CallRules.{own_messages}
-use Rattle.pz_classes.specs.Instances.{instances}
-use Rattle.pz_classes.specs.RepeatRules.{RepeatsName, same_name, headings, same_heading, same_message, BreaksC4, again_field, again_variable, again_port, again_local, again_instance, again_method, again_message}
+use Rattle.pz_classes.specs.pz_classes_rules.Numbers.{declaration}
+use Rattle.pz_classes.specs.pz_classes_rules.Ancestors.{parent, followed, ancestors}
+use Rattle.pz_classes.specs.pz_classes_rules.Preorder.{IsPreorderOf}
+use Rattle.pz_classes.specs.pz_classes_rules.CallRules.{own_messages}
+use Rattle.pz_classes.specs.pz_classes_rules.Instances.{instances}
+use Rattle.pz_classes.specs.pz_classes_rules.RepeatRules.{RepeatsName, same_name, headings, same_heading, same_message, BreaksC4, again_field, again_variable, again_port, again_local, again_instance, again_method, again_message}
 use Rattle.pz_check_duplicates.specs.declared.inherited.Inherited.{Inherited}
 use Rattle.pz_check_duplicates.specs.declared.inherited.Inherited.TheVariants.{Fields, Variables, Ports}
 use Rattle.pz_check_duplicates.specs.devices.Again.{repeats}
@@ -26,7 +26,7 @@ use Rattle.pz_check_duplicates.specs.devices.Signals.{message_place}
 use Rattle.pz_check_duplicates.specs.devices.RepeatList.{of_line, of_visits, of_names, of_part, of_parts, of_own, all_repeats}
 use Rattle.pz_check_duplicates.proofs.Lists.{none_in, flat_member, member_flat, at_place}
 use Rattle.pz_check_duplicates.proofs.Repeated.{At}
-use Rattle.pz_classes.proofs.Turned.{names_turned, headings_turned, messages_turned}
+use Rattle.pz_classes.proofs.pz_classes_rules_proofs.Turned.{names_turned, headings_turned, messages_turned}
 use Rattle.pz_check_duplicates.proofs.Declared.{number_of, among_declared, declared_within}
 use Rattle.pz_check_duplicates.proofs.LeastCovering.{NotBehind, least_covering}
 use Rattle.pz_check_duplicates.proofs.Covering.{found_sound, covers_none, covers_all}

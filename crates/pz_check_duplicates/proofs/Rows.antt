@@ -1,10 +1,10 @@
 -- Small models: what repeats, wherever it is said to stand.
 use Rattle.std.proofs.Common.{◌≡◌, refl, ℕ, List, [], ◌∷◌, None, codes}
-use Rattle.pz_syntax.specs.declared.tokens.Pos.{Pos}
-use Rattle.pz_syntax.specs.declared.names.Id.{Id}
-use Rattle.pz_syntax.specs.declared.clusters.SystemDecl.{SystemDecl}
+use Rattle.pz_classes.specs.pz_syntax.declared.tokens.Pos.{Pos}
+use Rattle.pz_classes.specs.pz_syntax.declared.names.Id.{Id}
+use Rattle.pz_classes.specs.pz_syntax.declared.clusters.SystemDecl.{SystemDecl}
 use Rattle.pz_check_violations.specs.Order.{violation}
-use Rattle.pz_classes.specs.RepeatRules.{same_name}
+use Rattle.pz_classes.specs.pz_classes_rules.RepeatRules.{same_name}
 use Rattle.pz_check_duplicates.specs.devices.Again.{repeats}
 use Rattle.pz_check_duplicates.specs.devices.Names.{id_place}
 use Rattle.pz_check_duplicates.specs.devices.Systems.{any_two_systems, system_place}

@@ -1,13 +1,13 @@
 -- The rule that there is one system, and what the search for a second one finds.
 use Rattle.std.proofs.Common.{◌≡◌, refl, subst, ◌<◌, false, IsTrue, List, [], Some, None, arith}
 use Rattle.std.proofs.lemmas.Option.{slice_get_within}
-use Rattle.pz_syntax.specs.declared.clusters.SystemDecl.{SystemDecl}
-use Rattle.pz_syntax.specs.Classes.{ModelTree}
+use Rattle.pz_classes.specs.pz_syntax.declared.clusters.SystemDecl.{SystemDecl}
+use Rattle.pz_classes.specs.pz_syntax.Classes.{ModelTree}
 use Rattle.pz_check_violations.specs.declared.violation.Violation.{Violation}
 use Rattle.pz_check_violations.specs.Order.{violation, is_before, IsLeast}
 use Rattle.pz_check_violations.specs.Least.{LeastOf, least_from, Member}
 use Rattle.pz_check_violations.proofs.Order.{not_before_itself}
-use Rattle.pz_classes.specs.SizeRules.{systems, text_start, BreaksC20, again_system, no_system}
+use Rattle.pz_classes.specs.pz_classes_rules.SizeRules.{systems, text_start, BreaksC20, again_system, no_system}
 use Rattle.pz_check_duplicates.specs.devices.Again.{repeats}
 use Rattle.pz_check_duplicates.specs.devices.Systems.{any_two_systems, system_place}
 use Rattle.pz_check_duplicates.proofs.LeastCovering.{NotBehind, least_covering}

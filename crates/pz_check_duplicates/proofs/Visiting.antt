@@ -1,23 +1,23 @@
 -- A walk over all classes finds a repeat that is not behind any.
 use Rattle.std.proofs.Common.{◌≡◌, sym, subst, ℕ, zero, suc, ◌-◌, List, [], ◌∷◌, length, drop, ◌⊎◌, inl, inr}
 use Rattle.std.specs.List.{Contains}
-use Rattle.pz_syntax.specs.declared.names.Id.{Id}
-use Rattle.pz_syntax.specs.Classes.{ModelTree}
+use Rattle.pz_classes.specs.pz_syntax.declared.names.Id.{Id}
+use Rattle.pz_classes.specs.pz_syntax.Classes.{ModelTree}
 use Rattle.pz_check_violations.specs.declared.violation.Violation.{Violation}
 use Rattle.pz_check_violations.specs.Least.{Member}
 use Rattle.pz_check_violations.proofs.Members.{member_left, member_right}
 use Rattle.pz_classes_lineage.specs.declared.visit.Visit.{Visit}
 use Rattle.pz_classes_lineage.specs.Preorder.{outermost, visited}
-use Rattle.pz_classes.specs.Ancestors.{ancestors}
-use Rattle.pz_classes.specs.Members.{from_root}
-use Rattle.pz_classes.specs.Preorder.{Opens}
-use Rattle.pz_classes.specs.RepeatRules.{same_name}
+use Rattle.pz_classes.specs.pz_classes_rules.Ancestors.{ancestors}
+use Rattle.pz_classes.specs.pz_classes_rules.Members.{from_root}
+use Rattle.pz_classes.specs.pz_classes_rules.Preorder.{Opens}
+use Rattle.pz_classes.specs.pz_classes_rules.RepeatRules.{same_name}
 use Rattle.pz_check_duplicates.specs.declared.inherited.Inherited.{Inherited}
 use Rattle.pz_check_duplicates.specs.devices.Names.{id_place}
 use Rattle.pz_check_duplicates.specs.devices.RepeatList.{own_of, own_at, of_line, of_visits}
 use Rattle.pz_check_duplicates.proofs.Lists.{none_in, in_cases}
 use Rattle.pz_check_duplicates.proofs.Repeated.{At}
-use Rattle.pz_classes.proofs.Turned.{names_turned}
+use Rattle.pz_classes.proofs.pz_classes_rules_proofs.Turned.{names_turned}
 use Rattle.pz_check_duplicates.proofs.Covering.{found_sound, Covers, covers_front, covers_more}
 
 module _ (m : ModelTree) (sort : Inherited) where

@@ -7,7 +7,7 @@ ghost use Rattle.pz_check_duplicates.specs.devices.Again.{later, later_of, same_
 use crate::places::{Thing, note};
 use indexmap::IndexMap;
 use pz_check_violations::{Violation, lesser, pos_before};
-use pz_syntax::Pos;
+use pz_classes::pz_syntax::Pos;
 use std::alloc::{AllocError, Global};
 use std::hash::Hash;
 

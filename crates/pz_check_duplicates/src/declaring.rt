@@ -1,7 +1,7 @@
 // Names that classes declare, each held against those of its ancestors.
 
 ghost use Rattle.std.specs.Prelude.{◌≡◌, List, [], ◌∷◌, ◌++◌, None, map, IfOk, OnOk};
-ghost use Rattle.pz_syntax.specs.declared.names.Id.{Id};
+ghost use Rattle.pz_classes.specs.pz_syntax.declared.names.Id.{Id};
 ghost use Rattle.pz_check_violations.specs.Least.{least_from};
 ghost use Rattle.pz_check_duplicates.specs.devices.Names.{id_of};
 ghost use Rattle.pz_check_duplicates.specs.devices.Again.{later_of};
@@ -12,7 +12,7 @@ use crate::again::least_later;
 use crate::places::{Thing, earlier_place};
 use pz_check_scopes::Nested;
 use pz_check_violations::Violation;
-use pz_syntax::Pos;
+use pz_classes::pz_syntax::Pos;
 use std::alloc::AllocError;
 
 /// Notes the earliest place of a name, and gives the least of what was found before and the later

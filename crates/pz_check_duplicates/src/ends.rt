@@ -2,10 +2,10 @@
 
 ghost use Rattle.std.specs.Prelude.{◌≡◌, ◌∷◌, [], ◌++◌, map, IfOk, OnOk};
 ghost use Rattle.std.specs.List.{flat_map};
-ghost use Rattle.pz_syntax.specs.declared.clusters.Channel.{Channel as Tree};
-ghost use Rattle.pz_syntax.specs.ClassView.{decl_view, model_view};
+ghost use Rattle.pz_classes.specs.pz_syntax.declared.clusters.Channel.{Channel as Tree};
+ghost use Rattle.pz_classes.specs.pz_syntax.ClassView.{decl_view, model_view};
 ghost use Rattle.pz_check_violations.specs.Least.{LeastOf, least_from};
-ghost use Rattle.pz_classes.specs.ChannelRules.{BreaksC17, end_place, same_end};
+ghost use Rattle.pz_classes.specs.pz_classes_rules.ChannelRules.{BreaksC17, end_place, same_end};
 ghost use Rattle.pz_check_duplicates.specs.devices.Again.{thing_place, repeats};
 ghost use Rattle.pz_check_duplicates.specs.devices.Tips.{tip, tip_of};
 ghost use Rattle.pz_check_duplicates.specs.devices.Outers.{outer_places};
@@ -14,9 +14,9 @@ ghost use Rattle.pz_check_duplicates.specs.devices.EndList.{outers, of_decl};
 use crate::again::least_again;
 use crate::places::{Alike, Thing};
 use pz_check_violations::Violation;
+use pz_classes::pz_items::Items;
+use pz_classes::pz_syntax::{Channel, ChannelEnd, Decl, Model};
 use pz_classes::{channels_of, is_cluster};
-use pz_items::Items;
-use pz_syntax::{Channel, ChannelEnd, Decl, Model};
 use std::alloc::{AllocError, Global};
 
 /// An end of a channel, by the names that it is written with.

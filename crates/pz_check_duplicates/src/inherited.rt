@@ -1,7 +1,7 @@
 // What classes inherit by name.
 
 ghost use Rattle.std.specs.Prelude.{◌≡◌, ◌++◌, map, IfOk, OnOk};
-ghost use Rattle.pz_syntax.specs.ClassView.{decl_view, model_view};
+ghost use Rattle.pz_classes.specs.pz_syntax.ClassView.{decl_view, model_view};
 ghost use Rattle.pz_check_duplicates.specs.devices.Names.{id_of};
 ghost use Rattle.pz_check_duplicates.specs.declared.inherited.Inherited.TheVariants.{Fields, Variables, Ports};
 ghost use Rattle.pz_check_duplicates.specs.devices.RepeatList.{own_of, own_at};
@@ -9,8 +9,8 @@ ghost use Rattle.pz_check_duplicates.specs.devices.RepeatList.{own_of, own_at};
 use crate::names::{push_optional, push_section};
 use crate::places::Thing;
 use pz_classes::declaration;
-use pz_items::Items;
-use pz_syntax::{Decl, Model};
+use pz_classes::pz_items::Items;
+use pz_classes::pz_syntax::{Decl, Model};
 use std::alloc::{AllocError, Global};
 
 /// What a class inherits by name.

@@ -2,18 +2,18 @@
 
 ghost use Rattle.std.specs.Prelude.{◌≡◌, [], length, map, IfOk};
 ghost use Rattle.std.specs.Option.{unwrap_or};
-ghost use Rattle.pz_syntax.specs.ClassView.{decl_view};
+ghost use Rattle.pz_classes.specs.pz_syntax.ClassView.{decl_view};
 ghost use Rattle.pz_check_violations.specs.Least.{least_from};
-ghost use Rattle.pz_classes.specs.CallRules.{own_messages};
-ghost use Rattle.pz_classes.specs.RepeatRules.{same_message};
+ghost use Rattle.pz_classes.specs.pz_classes_rules.CallRules.{own_messages};
+ghost use Rattle.pz_classes.specs.pz_classes_rules.RepeatRules.{same_message};
 ghost use Rattle.pz_check_duplicates.specs.devices.Again.{repeats};
 ghost use Rattle.pz_check_duplicates.specs.devices.Signals.{signal, signal_of, message_place};
 
 use crate::again::least_again;
 use crate::places::Thing;
 use pz_check_violations::Violation;
-use pz_items::Items;
-use pz_syntax::{Decl, Id, Message};
+use pz_classes::pz_items::Items;
+use pz_classes::pz_syntax::{Decl, Id, Message};
 use std::alloc::{AllocError, Global};
 
 /// A message, by its port, its direction, its name and how many parameters it has.

@@ -1,20 +1,20 @@
 // Methods that repeat one another.
 
 ghost use Rattle.std.specs.Prelude.{◌≡◌, ◌<◌, ◌^◌, length, map, All, IfOk};
-ghost use Rattle.pz_syntax.specs.ClassView.{decl_view, data_method_view, process_method_view};
-ghost use Rattle.pz_syntax.specs.ModelText.{decl_text};
+ghost use Rattle.pz_classes.specs.pz_syntax.ClassView.{decl_view, data_method_view, process_method_view};
+ghost use Rattle.pz_classes.specs.pz_syntax.ModelText.{decl_text};
 ghost use Rattle.pz_check_violations.specs.Least.{least_from};
-ghost use Rattle.pz_classes.specs.Members.{grouped, section};
-ghost use Rattle.pz_classes.specs.RepeatRules.{data_heading, process_heading, headings, same_heading};
+ghost use Rattle.pz_classes.specs.pz_classes_rules.Members.{grouped, section};
+ghost use Rattle.pz_classes.specs.pz_classes_rules.RepeatRules.{data_heading, process_heading, headings, same_heading};
 ghost use Rattle.pz_check_duplicates.specs.devices.Again.{repeats};
 ghost use Rattle.pz_check_duplicates.specs.devices.Headings.{heading_of, heading_place};
 
 use crate::again::least_again;
 use crate::places::Thing;
 use pz_check_violations::Violation;
+use pz_classes::pz_items::Items;
+use pz_classes::pz_syntax::{DataMethod, Decl, ProcessMethod};
 use pz_classes::{count_names, count_section};
-use pz_items::Items;
-use pz_syntax::{DataMethod, Decl, ProcessMethod};
 use std::alloc::{AllocError, Global};
 
 /// A method, by its name and its counts.

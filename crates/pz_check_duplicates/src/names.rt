@@ -2,20 +2,20 @@
 
 ghost use Rattle.std.specs.Prelude.{◌≡◌, ◌++◌, [], map, IfOk, OnOk};
 ghost use Rattle.std.specs.Option.{unwrap_or};
-ghost use Rattle.pz_syntax.specs.declared.clusters.Instance.{Instance as Tree};
+ghost use Rattle.pz_classes.specs.pz_syntax.declared.clusters.Instance.{Instance as Tree};
 ghost use Rattle.pz_check_violations.specs.Least.{least_from};
 ghost use Rattle.pz_classes_mentions.specs.Stretches.{local_names};
-ghost use Rattle.pz_classes.specs.Members.{grouped, section};
-ghost use Rattle.pz_classes.specs.RepeatRules.{same_name};
+ghost use Rattle.pz_classes.specs.pz_classes_rules.Members.{grouped, section};
+ghost use Rattle.pz_classes.specs.pz_classes_rules.RepeatRules.{same_name};
 ghost use Rattle.pz_check_duplicates.specs.devices.Again.{repeats};
 ghost use Rattle.pz_check_duplicates.specs.devices.Names.{id_of, id_place};
 
 use crate::again::least_again;
 use crate::places::Thing;
 use pz_check_violations::Violation;
+use pz_classes::pz_items::Items;
+use pz_classes::pz_syntax::{Id, Instance, VarGroup};
 use pz_classes_mentions::Locals;
-use pz_items::Items;
-use pz_syntax::{Id, Instance, VarGroup};
 use std::alloc::{AllocError, Global};
 
 fn name_thing(id: &Id) -> Thing<&[u8]>

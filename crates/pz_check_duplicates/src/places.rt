@@ -6,7 +6,7 @@ ghost use Rattle.pz_check_duplicates.specs.devices.Earlier.{earlier};
 
 use indexmap::IndexMap;
 use pz_check_violations::pos_before;
-use pz_syntax::Pos;
+use pz_classes::pz_syntax::Pos;
 use std::alloc::AllocError;
 use std::hash::Hash;
 

@@ -2,11 +2,11 @@
 
 ghost use Rattle.std.specs.Prelude.{◌≡◌, ◌<◌, ◌^◌, length, map, IfOk};
 ghost use Rattle.std.specs.List.{flat_map};
-ghost use Rattle.pz_syntax.specs.ClassView.{decl_view, model_view};
-ghost use Rattle.pz_syntax.specs.ModelText.{HasFewMarks, decl_text};
+ghost use Rattle.pz_classes.specs.pz_syntax.ClassView.{decl_view, model_view};
+ghost use Rattle.pz_classes.specs.pz_syntax.ModelText.{HasFewMarks, decl_text};
 ghost use Rattle.pz_classes_mentions.specs.Declarations.{parts};
 ghost use Rattle.pz_check_violations.specs.Least.{LeastOf, least_from};
-ghost use Rattle.pz_classes.specs.RepeatRules.{BreaksC4};
+ghost use Rattle.pz_classes.specs.pz_classes_rules.RepeatRules.{BreaksC4};
 ghost use Rattle.pz_classes.specs.devices.Rows.{AreClasses};
 ghost use Rattle.pz_check_duplicates.specs.devices.RepeatList.{of_parts, of_own};
 
@@ -16,9 +16,9 @@ use crate::methods::least_method;
 use crate::names::{least_instance, least_variable};
 use crate::walk::least_inherited;
 use pz_check_violations::Violation;
+use pz_classes::pz_syntax::{Decl, Model};
 use pz_classes::{Classes, instances_of};
 use pz_classes_mentions::parts_of;
-use pz_syntax::{Decl, Model};
 use std::alloc::{AllocError, Global};
 
 /// The least of what was found before and the local names that repeat one of the same method.

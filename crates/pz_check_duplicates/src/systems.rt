@@ -1,17 +1,17 @@
 // The rule C20: there is one system.
 
 ghost use Rattle.std.specs.Prelude.{◌≡◌, map, IfOk};
-ghost use Rattle.pz_syntax.specs.ClassView.{model_view};
+ghost use Rattle.pz_classes.specs.pz_syntax.ClassView.{model_view};
 ghost use Rattle.pz_check_violations.specs.Least.{LeastOf};
-ghost use Rattle.pz_classes.specs.SizeRules.{BreaksC20, systems};
+ghost use Rattle.pz_classes.specs.pz_classes_rules.SizeRules.{BreaksC20, systems};
 ghost use Rattle.pz_check_duplicates.specs.devices.Again.{thing_place};
 ghost use Rattle.pz_check_duplicates.specs.devices.Systems.{system_place};
 
 use crate::again::least_again;
 use crate::places::{Alike, Thing};
 use pz_check_violations::Violation;
-use pz_items::Items;
-use pz_syntax::{Decl, Model, Pos};
+use pz_classes::pz_items::Items;
+use pz_classes::pz_syntax::{Decl, Model, Pos};
 use std::alloc::{AllocError, Global};
 
 const THE_SYSTEM: u8 = 20;

@@ -1,10 +1,10 @@
 // Names that repeat one another among a class and its ancestors: all classes in one walk.
 
 ghost use Rattle.std.specs.Prelude.{◌≡◌, List, ◌∷◌, IfOk, OnOk};
-ghost use Rattle.pz_syntax.specs.declared.names.Id.{Id};
-ghost use Rattle.pz_syntax.specs.ClassView.{model_view};
+ghost use Rattle.pz_classes.specs.pz_syntax.declared.names.Id.{Id};
+ghost use Rattle.pz_classes.specs.pz_syntax.ClassView.{model_view};
 ghost use Rattle.pz_check_violations.specs.Least.{least_from};
-ghost use Rattle.pz_classes.specs.Preorder.{IsPreorderOf};
+ghost use Rattle.pz_classes.specs.pz_classes_rules.Preorder.{IsPreorderOf};
 ghost use Rattle.pz_check_duplicates.specs.devices.Inheriting.{found_in};
 ghost use Rattle.pz_check_duplicates.specs.devices.Knowing.{spread, Knows};
 ghost use Rattle.pz_check_duplicates.specs.devices.RepeatList.{own_at, of_visits};
@@ -13,8 +13,8 @@ use crate::declaring::declare_all;
 use crate::inherited::{Inherited, own_names};
 use pz_check_scopes::Nested;
 use pz_check_violations::Violation;
+use pz_classes::pz_syntax::{Model, Pos};
 use pz_classes_lineage::Visit;
-use pz_syntax::{Model, Pos};
 use std::alloc::{AllocError, Global};
 
 /// Goes into a class: the least of what was found before and the repeats of its own names.

@@ -2,8 +2,8 @@
 use Rattle.std.proofs.Common.{◌≡◌, refl, sym, subst, zero, suc, List, [], ◌∷◌, ◌++◌, arith, ◌⊎◌, inl, inr}
 use Rattle.std.specs.List.{Contains, flat_map}
 use Rattle.std.proofs.lemmas.List.Elements.{Contains-append_left, Contains-append_right, Contains-append_cases, Contains-get_or}
-use Rattle.pz_check_violations.specs.declared.violation.Violation.{Violation}
-use Rattle.pz_check_violations.specs.Least.{Member}
+use Rattle.pz_classes.specs.pz_check_violations.declared.violation.Violation.{Violation}
+use Rattle.pz_classes.specs.pz_check_violations.Least.{Member}
 
 module _ {A : Type 0} where
   pub only_one : (x y : A) → Contains (x ∷ []) y → x ≡ y

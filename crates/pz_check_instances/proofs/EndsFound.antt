@@ -4,23 +4,23 @@ use Rattle.std.specs.List.{Contains, flat_map}
 use Rattle.std.specs.Option.{option_map_or}
 use Rattle.std.proofs.lemmas.Bool.Decides.{nat_tests}
 use Rattle.std.proofs.lemmas.List.Elements.{Contains-append_left, Contains-append_right, Contains-append_cases}
-use Rattle.pz_syntax.specs.declared.clusters.Instance.{Instance}
-use Rattle.pz_syntax.specs.declared.clusters.ChannelEnd.{ChannelEnd}
-use Rattle.pz_syntax.specs.declared.clusters.ChannelEnd.TheVariants.{Inner, Outer}
-use Rattle.pz_syntax.specs.Classes.{DeclTree, ModelTree}
+use Rattle.pz_classes_code.specs.pz_syntax.declared.clusters.Instance.{Instance}
+use Rattle.pz_classes_code.specs.pz_syntax.declared.clusters.ChannelEnd.{ChannelEnd}
+use Rattle.pz_classes_code.specs.pz_syntax.declared.clusters.ChannelEnd.TheVariants.{Inner, Outer}
+use Rattle.pz_classes_code.specs.pz_syntax.Classes.{DeclTree, ModelTree}
 use Rattle.pz_classes_lineage.specs.declared.visit.Visit.{Visit}
-use Rattle.pz_check_violations.specs.declared.violation.Violation.{Violation}
-use Rattle.pz_check_violations.specs.Order.{violation}
-use Rattle.pz_check_violations.specs.Least.{LeastOf, least_from, Member}
-use Rattle.pz_check_violations.proofs.Members.{listed_is, is_listed}
-use Rattle.pz_check_violations.proofs.Leasts as leasts
-use Rattle.pz_classes.specs.Numbers.{declaration}
-use Rattle.pz_classes.specs.Members.{ports}
-use Rattle.pz_classes.specs.Kinds.{is_cluster}
-use Rattle.pz_classes.specs.Words.{is_among}
-use Rattle.pz_classes.specs.Instances.{instance_class}
-use Rattle.pz_classes.specs.ChannelRules.{ends, end_place, has_port, instance_named, breaks_c16, BreaksC16, no_end}
-use Rattle.pz_classes.specs.Preorder.{IsPreorderOf}
+use Rattle.pz_classes.specs.pz_check_violations.declared.violation.Violation.{Violation}
+use Rattle.pz_classes.specs.pz_check_violations.Order.{violation}
+use Rattle.pz_classes.specs.pz_check_violations.Least.{LeastOf, least_from, Member}
+use Rattle.pz_classes.proofs.pz_check_violations_proofs.Members.{listed_is, is_listed}
+use Rattle.pz_classes.proofs.pz_check_violations_proofs.Leasts as leasts
+use Rattle.pz_classes.specs.pz_classes_rules.Numbers.{declaration}
+use Rattle.pz_classes.specs.pz_classes_rules.Members.{ports}
+use Rattle.pz_classes.specs.pz_classes_rules.Kinds.{is_cluster}
+use Rattle.pz_classes.specs.pz_classes_rules.Words.{is_among}
+use Rattle.pz_classes.specs.pz_classes_rules.Instances.{instance_class}
+use Rattle.pz_classes.specs.pz_classes_rules.ChannelRules.{ends, end_place, has_port, instance_named, breaks_c16, BreaksC16, no_end}
+use Rattle.pz_classes.specs.pz_classes_rules.Preorder.{IsPreorderOf}
 use Rattle.pz_check_instances.specs.declared.needs.Need.{Need}
 use Rattle.pz_check_instances.specs.declared.needs.Need.TheVariants.{Nothing, Port, Missing}
 use Rattle.pz_check_instances.specs.devices.Needs.{need, need_of_instance}

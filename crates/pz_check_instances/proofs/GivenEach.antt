@@ -12,7 +12,7 @@ use Rattle.std.proofs.lemmas.Map.Keys.{IsDistinct-push}
 use Rattle.std.proofs.lemmas.Map.Made.{length-le_from_is_member}
 use Rattle.pz_check_instances.specs.devices.NameSets.{has_name, SameNames}
 use Rattle.pz_check_instances.specs.devices.Given.{all_new, gives_wanted}
-use Rattle.pz_classes.specs.InstanceRules.{gives_each}
+use Rattle.pz_classes.specs.pz_classes_rules.InstanceRules.{gives_each}
 use Rattle.pz_check_instances.proofs.NameLists.{all_false, some_false, all_same, has_first, has_later}
 
 -- how often a name stands in a list

@@ -3,18 +3,18 @@ use Rattle.std.proofs.Common.{◌≡◌, refl, sym, ap, subst, ℕ, arith, Bool,
 use Rattle.std.specs.List.{Contains}
 use Rattle.std.proofs.lemmas.Bool.{not-true}
 use Rattle.std.proofs.lemmas.Bool.Decides.{nat_tests}
-use Rattle.pz_syntax.specs.declared.clusters.Instance.{Instance}
-use Rattle.pz_syntax.specs.Classes.{ModelTree}
+use Rattle.pz_classes_code.specs.pz_syntax.declared.clusters.Instance.{Instance}
+use Rattle.pz_classes_code.specs.pz_syntax.Classes.{ModelTree}
 use Rattle.pz_classes_lineage.specs.declared.visit.Visit.{Visit}
-use Rattle.pz_check_violations.specs.declared.violation.Violation.{Violation}
-use Rattle.pz_check_violations.specs.Order.{violation}
-use Rattle.pz_check_violations.specs.Least.{LeastOf, least_from, Member}
-use Rattle.pz_check_violations.proofs.Members.{listed_is, is_listed}
-use Rattle.pz_check_violations.proofs.Leasts as leasts
-use Rattle.pz_classes.specs.Members.{spelled}
-use Rattle.pz_classes.specs.Instances.{instances, instance_class, parameters}
-use Rattle.pz_classes.specs.InstanceRules.{given_names, gives_each, BreaksC14, ill_given}
-use Rattle.pz_classes.specs.Preorder.{IsPreorderOf}
+use Rattle.pz_classes.specs.pz_check_violations.declared.violation.Violation.{Violation}
+use Rattle.pz_classes.specs.pz_check_violations.Order.{violation}
+use Rattle.pz_classes.specs.pz_check_violations.Least.{LeastOf, least_from, Member}
+use Rattle.pz_classes.proofs.pz_check_violations_proofs.Members.{listed_is, is_listed}
+use Rattle.pz_classes.proofs.pz_check_violations_proofs.Leasts as leasts
+use Rattle.pz_classes.specs.pz_classes_rules.Members.{spelled}
+use Rattle.pz_classes.specs.pz_classes_rules.Instances.{instances, instance_class, parameters}
+use Rattle.pz_classes.specs.pz_classes_rules.InstanceRules.{given_names, gives_each, BreaksC14, ill_given}
+use Rattle.pz_classes.specs.pz_classes_rules.Preorder.{IsPreorderOf}
 use Rattle.pz_check_instances.specs.devices.Given.{is_number, if_of_class, of_class, all_instances, ill_given_of, ill_given_in, all_given}
 use Rattle.pz_check_instances.proofs.Contained.{holder, held, only_one, first_of, in_none, member_contained, contained_member}
 use Rattle.pz_check_instances.proofs.Numbered.{numbered, declared, instance_class_within, visit_of}

@@ -4,9 +4,9 @@ use Rattle.std.specs.List.{HoldsAt, find}
 use Rattle.std.specs.Str.{bytes_eq}
 use Rattle.std.specs.Option.{option_map, option_and_then, option_copied, MatchOption, IfSome}
 use Rattle.std.proofs.lemmas.Option.{slice_get_past, slice_get-get_or}
-use Rattle.pz_syntax.specs.declared.clusters.Instance.{Instance}
-use Rattle.pz_value.specs.declared.value.ClassId.{ClassId}
-use Rattle.pz_classes.specs.Tables.{class_id}
+use Rattle.pz_classes_code.specs.pz_syntax.declared.clusters.Instance.{Instance}
+use Rattle.pz_classes_code.specs.pz_value.declared.value.ClassId.{ClassId}
+use Rattle.pz_classes.specs.pz_classes_rules.ClassNames.{class_id}
 use Rattle.pz_check_instances.specs.devices.Ends.{place_named}
 
 -- what `get` reads of a list

@@ -3,14 +3,14 @@ use Rattle.std.proofs.Common.{◌≡◌, refl, sym, ap, ◌∙◌, ℕ, zero, su
 use Rattle.std.specs.Option.{option_map_or}
 use Rattle.std.specs.Str.{bytes_eq}
 use Rattle.std.proofs.lemmas.List.Folds.{list_any-append}
-use Rattle.pz_syntax.specs.declared.names.Id.{Id}
-use Rattle.pz_syntax.specs.Classes.{DeclTree, ModelTree}
+use Rattle.pz_classes_code.specs.pz_syntax.declared.names.Id.{Id}
+use Rattle.pz_classes_code.specs.pz_syntax.Classes.{DeclTree, ModelTree}
 use Rattle.pz_classes_lineage.specs.declared.visit.Visit.{Visit}
 use Rattle.pz_classes_lineage.specs.Preorder.{outermost}
-use Rattle.pz_classes.specs.Numbers.{declaration}
-use Rattle.pz_classes.specs.Ancestors.{ancestors}
-use Rattle.pz_classes.specs.Members.{from_root, spelled}
-use Rattle.pz_classes.specs.Preorder.{Opens}
+use Rattle.pz_classes.specs.pz_classes_rules.Numbers.{declaration}
+use Rattle.pz_classes.specs.pz_classes_rules.Ancestors.{ancestors}
+use Rattle.pz_classes.specs.pz_classes_rules.Members.{from_root, spelled}
+use Rattle.pz_classes.specs.pz_classes_rules.Preorder.{Opens}
 use Rattle.pz_check_instances.specs.devices.NameSets.{has_name, SameNames}
 use Rattle.pz_check_instances.specs.devices.Open.{kept}
 use Rattle.pz_check_instances.proofs.NameLists.{has_with_all, spelled_append}

@@ -6,9 +6,9 @@ use Rattle.std.proofs.lemmas.Slice.Eq.{bytes_eq-Decides}
 use Rattle.std.proofs.lemmas.List.Folds.{list_any-append}
 use Rattle.std.proofs.lemmas.List.{map-append}
 use Rattle.indexmap.specs.IndexSet.{insert_key}
-use Rattle.pz_syntax.specs.declared.names.Id.{Id}
-use Rattle.pz_syntax.specs.declared.classes.VarGroup.{VarGroup}
-use Rattle.pz_classes.specs.Members.{spelled, grouped}
+use Rattle.pz_classes_code.specs.pz_syntax.declared.names.Id.{Id}
+use Rattle.pz_classes_code.specs.pz_syntax.declared.classes.VarGroup.{VarGroup}
+use Rattle.pz_classes.specs.pz_classes_rules.Members.{spelled, grouped}
 use Rattle.pz_check_instances.specs.devices.NameSets.{has_name, with_name, with_all, SameNames}
 
 pub any_map : {A B : Type 0} (p : B → Bool) (f : A → B) (xs : List A) → list_any (λ x. p (f x)) xs ≡ list_any p (map f xs)

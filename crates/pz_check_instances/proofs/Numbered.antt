@@ -3,14 +3,14 @@ use Rattle.std.proofs.Common.{◌≡◌, refl, sym, ap, ◌∙◌, ℕ, zero, su
 use Rattle.std.specs.List.{Contains}
 use Rattle.std.proofs.lemmas.List.{length-map}
 use Rattle.std.proofs.lemmas.Option.{slice_get-get_or, slice_get_within, get_or_from_slice_get}
-use Rattle.pz_syntax.specs.Classes.{DeclTree, ModelTree}
+use Rattle.pz_classes_code.specs.pz_syntax.Classes.{DeclTree, ModelTree}
 use Rattle.pz_classes_lineage.specs.declared.visit.Visit.{Visit}
 use Rattle.pz_classes_lineage.specs.Preorder.{visited}
 use Rattle.pz_classes_code.specs.ReservedNames.{is_unsupported}
-use Rattle.pz_classes.specs.Numbers.{declaration, class, first_named, is_named}
-use Rattle.pz_classes.specs.NameRules.{has_instances}
-use Rattle.pz_classes.specs.Instances.{instance_class}
-use Rattle.pz_classes.specs.Preorder.{IsPreorderOf}
+use Rattle.pz_classes.specs.pz_classes_rules.Numbers.{declaration, class, first_named, is_named}
+use Rattle.pz_classes.specs.pz_classes_rules.NameRules.{has_instances}
+use Rattle.pz_classes.specs.pz_classes_rules.Instances.{instance_class}
+use Rattle.pz_classes.specs.pz_classes_rules.Preorder.{IsPreorderOf}
 use Rattle.pz_classes.specs.devices.Rows.{Row, rows_from, row_view, AreClasses}
 use Rattle.pz_classes.specs.declared.classes.Classes.{Classes}
 use Rattle.pz_check_instances.proofs.Contained.{first_of, later_of, either_of, in_none}

@@ -1,15 +1,15 @@
 -- A small model: what its instances give, and where its channels end.
 use Rattle.std.proofs.Common.{◌≡◌, refl, ℕ, List, [], ◌∷◌, map, nat_eq, cond, Option, Some, None, codes}
-use Rattle.pz_syntax.specs.declared.names.Id.{Id}
-use Rattle.pz_syntax.specs.declared.classes.VarGroup.{VarGroup}
-use Rattle.pz_syntax.specs.declared.clusters.Arg.TheVariants.{Parameter}
-use Rattle.pz_syntax.specs.declared.clusters.Instance.{Instance}
-use Rattle.pz_syntax.specs.declared.clusters.Channel.{Channel}
-use Rattle.pz_syntax.specs.declared.clusters.ChannelEnd.{ChannelEnd}
-use Rattle.pz_syntax.specs.declared.clusters.ChannelEnd.TheVariants.{Inner, Outer}
-use Rattle.pz_syntax.specs.Classes.{DeclTree, process_class, cluster_class, system, ModelTree}
+use Rattle.pz_classes_code.specs.pz_syntax.declared.names.Id.{Id}
+use Rattle.pz_classes_code.specs.pz_syntax.declared.classes.VarGroup.{VarGroup}
+use Rattle.pz_classes_code.specs.pz_syntax.declared.clusters.Arg.TheVariants.{Parameter}
+use Rattle.pz_classes_code.specs.pz_syntax.declared.clusters.Instance.{Instance}
+use Rattle.pz_classes_code.specs.pz_syntax.declared.clusters.Channel.{Channel}
+use Rattle.pz_classes_code.specs.pz_syntax.declared.clusters.ChannelEnd.{ChannelEnd}
+use Rattle.pz_classes_code.specs.pz_syntax.declared.clusters.ChannelEnd.TheVariants.{Inner, Outer}
+use Rattle.pz_classes_code.specs.pz_syntax.Classes.{DeclTree, process_class, cluster_class, system, ModelTree}
 use Rattle.pz_classes_lineage.specs.declared.visit.Visit.{Visit}
-use Rattle.pz_check_violations.specs.Order.{violation}
+use Rattle.pz_classes.specs.pz_check_violations.Order.{violation}
 use Rattle.pz_check_instances.specs.devices.Given.{all_given}
 use Rattle.pz_check_instances.specs.devices.Ends.{missing_ends}
 

@@ -3,15 +3,15 @@ use Rattle.std.proofs.Common.{◌≡◌, refl, sym, ap, ◌∙◌, ℕ, zero, su
 use Rattle.std.specs.List.{flat_map}
 use Rattle.std.proofs.lemmas.List.Concat.{flat_map-append}
 use Rattle.std.proofs.lemmas.List.Folds.{flat_map-map}
-use Rattle.pz_syntax.specs.declared.clusters.ChannelEnd.{ChannelEnd}
-use Rattle.pz_syntax.specs.declared.clusters.Decl.{Decl}
-use Rattle.pz_syntax.specs.Classes.{DeclTree, ModelTree}
-use Rattle.pz_syntax.specs.ClassView.{decl_view}
-use Rattle.pz_check_violations.specs.declared.violation.Violation.{Violation}
-use Rattle.pz_check_violations.specs.Least.{least_from}
-use Rattle.pz_check_violations.proofs.Leasts.{least_from_append}
-use Rattle.pz_classes.specs.Instances.{instances}
-use Rattle.pz_classes.specs.ChannelRules.{ends}
+use Rattle.pz_classes_code.specs.pz_syntax.declared.clusters.ChannelEnd.{ChannelEnd}
+use Rattle.pz_classes_code.specs.pz_syntax.declared.clusters.Decl.{Decl}
+use Rattle.pz_classes_code.specs.pz_syntax.Classes.{DeclTree, ModelTree}
+use Rattle.pz_classes_code.specs.pz_syntax.ClassView.{decl_view}
+use Rattle.pz_classes.specs.pz_check_violations.declared.violation.Violation.{Violation}
+use Rattle.pz_classes.specs.pz_check_violations.Least.{least_from}
+use Rattle.pz_classes.proofs.pz_check_violations_proofs.Leasts.{least_from_append}
+use Rattle.pz_classes.specs.pz_classes_rules.Instances.{instances}
+use Rattle.pz_classes.specs.pz_classes_rules.ChannelRules.{ends}
 use Rattle.pz_check_instances.specs.devices.Given.{of_class, if_of_class}
 use Rattle.pz_check_instances.specs.devices.Ends.{over}
 use Rattle.pz_check_instances.proofs.ClassLists.{added_none}

@@ -3,18 +3,18 @@ use Rattle.std.proofs.Common.{◌≡◌, refl, sym, ap, subst, ◌∙◌, ℕ, s
 use Rattle.std.specs.List.{flat_map}
 use Rattle.std.specs.Str.{bytes_eq}
 use Rattle.std.proofs.lemmas.List.Folds.{flat_map-map}
-use Rattle.pz_syntax.specs.declared.names.Id.{Id}
-use Rattle.pz_syntax.specs.declared.clusters.Instance.{Instance}
-use Rattle.pz_syntax.specs.Classes.{DeclTree, ModelTree}
+use Rattle.pz_classes_code.specs.pz_syntax.declared.names.Id.{Id}
+use Rattle.pz_classes_code.specs.pz_syntax.declared.clusters.Instance.{Instance}
+use Rattle.pz_classes_code.specs.pz_syntax.Classes.{DeclTree, ModelTree}
 use Rattle.pz_classes_lineage.specs.declared.visit.Visit.{Visit}
 use Rattle.pz_classes_lineage.specs.Preorder.{outermost}
-use Rattle.pz_check_violations.specs.Least.{listed}
-use Rattle.pz_classes.specs.Ancestors.{ancestors}
-use Rattle.pz_classes.specs.Members.{spelled, own_ports, ports}
-use Rattle.pz_classes.specs.Words.{is_among}
-use Rattle.pz_classes.specs.Instances.{own_parameters, parameters}
-use Rattle.pz_classes.specs.InstanceRules.{given_names}
-use Rattle.pz_classes.specs.Preorder.{IsPreorderOf}
+use Rattle.pz_classes.specs.pz_check_violations.Least.{listed}
+use Rattle.pz_classes.specs.pz_classes_rules.Ancestors.{ancestors}
+use Rattle.pz_classes.specs.pz_classes_rules.Members.{spelled, own_ports, ports}
+use Rattle.pz_classes.specs.pz_classes_rules.Words.{is_among}
+use Rattle.pz_classes.specs.pz_classes_rules.Instances.{own_parameters, parameters}
+use Rattle.pz_classes.specs.pz_classes_rules.InstanceRules.{given_names}
+use Rattle.pz_classes.specs.pz_classes_rules.Preorder.{IsPreorderOf}
 use Rattle.pz_check_instances.specs.declared.channel_ends.Asked.{Asked}
 use Rattle.pz_check_instances.specs.declared.open_names.OpenNames.{OpenNames}
 use Rattle.pz_check_instances.specs.devices.NameSets.{has_name}

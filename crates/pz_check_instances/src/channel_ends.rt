@@ -2,10 +2,10 @@
 
 ghost use Rattle.std.specs.Prelude.{◌≡◌, ◌<◌, ◌≤◌, ◌^◌, ◌++◌, ℕ, suc, length, map, None, IfOk, OnOk};
 ghost use Rattle.std.specs.List.{flat_map};
-ghost use Rattle.pz_syntax.specs.ClassView.{decl_view, model_view};
-ghost use Rattle.pz_syntax.specs.ModelText.{HasFewMarks, decl_text};
-ghost use Rattle.pz_check_violations.specs.Least.{LeastOf, least_from};
-ghost use Rattle.pz_classes.specs.ChannelRules as rules;
+ghost use Rattle.pz_classes_code.specs.pz_syntax.ClassView.{decl_view, model_view};
+ghost use Rattle.pz_classes_code.specs.pz_syntax.ModelText.{HasFewMarks, decl_text};
+ghost use Rattle.pz_classes.specs.pz_check_violations.Least.{LeastOf, least_from};
+ghost use Rattle.pz_classes.specs.pz_classes_rules.ChannelRules as rules;
 ghost use Rattle.pz_classes.specs.devices.Rows.{AreClasses};
 ghost use Rattle.pz_check_instances.specs.devices.NameSets.{names_in};
 ghost use Rattle.pz_check_instances.specs.devices.Ends as spec;
@@ -18,9 +18,9 @@ use crate::name_set::NameSet;
 use crate::needs::{Inside, Need, places_of};
 use crate::open_names::OpenNames;
 use crate::parts::ports_at;
-use pz_check_violations::{Violation, lesser};
+use pz_classes::pz_check_violations::{Violation, lesser};
 use pz_classes::{Classes, channels_of, instances_of};
-use pz_syntax::{ChannelEnd, Decl, Model, Pos};
+use pz_classes_code::pz_syntax::{ChannelEnd, Decl, Model, Pos};
 use std::alloc::{AllocError, Global};
 
 /// A port that an end of a channel asks of a class, and where the end stands.

@@ -2,9 +2,9 @@
 
 ghost use Rattle.std.specs.Prelude.{◌≡◌, ◌++◌, ℕ, [], suc, length, map, IfOk, OnOk};
 ghost use Rattle.std.specs.List.{flat_map};
-ghost use Rattle.pz_syntax.specs.ClassView.{model_view};
-ghost use Rattle.pz_check_violations.specs.Least.{LeastOf, least_from};
-ghost use Rattle.pz_classes.specs.InstanceRules.{BreaksC14, given_names};
+ghost use Rattle.pz_classes_code.specs.pz_syntax.ClassView.{model_view};
+ghost use Rattle.pz_classes.specs.pz_check_violations.Least.{LeastOf, least_from};
+ghost use Rattle.pz_classes.specs.pz_classes_rules.InstanceRules.{BreaksC14, given_names};
 ghost use Rattle.pz_classes.specs.devices.Rows.{AreClasses};
 ghost use Rattle.pz_check_instances.specs.devices.NameSets.{names_in};
 ghost use Rattle.pz_check_instances.specs.devices.ClassRows.{row, row_count};
@@ -15,9 +15,9 @@ use crate::by_class::ByClass;
 use crate::name_set::NameSet;
 use crate::open_names::OpenNames;
 use crate::parts::{given_of, parameters_at};
-use pz_check_violations::{Violation, lesser};
+use pz_classes::pz_check_violations::{Violation, lesser};
 use pz_classes::{Classes, class_of_instance, instances_of};
-use pz_syntax::{Given, Instance, Model};
+use pz_classes_code::pz_syntax::{Given, Instance, Model};
 use std::alloc::{AllocError, Global};
 
 /// Whether each of these names is wanted, and none is given twice. The only error is want of memory.

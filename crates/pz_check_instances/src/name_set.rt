@@ -1,9 +1,9 @@
 ghost use Rattle.std.specs.Prelude.{◌≡◌, [], not, length, take, IfOk, OnOk};
-ghost use Rattle.pz_classes.specs.Members.{spelled, grouped};
+ghost use Rattle.pz_classes.specs.pz_classes_rules.Members.{spelled, grouped};
 ghost use Rattle.pz_check_instances.specs.devices.NameSets.{names_in, has_name, with_name, with_all};
 
 use indexmap::IndexSet;
-use pz_syntax::{Id, VarGroup};
+use pz_classes_code::pz_syntax::{Id, VarGroup};
 use std::alloc::{AllocError, Global};
 
 /// Names, each of which it has once, in the order in which they were added.

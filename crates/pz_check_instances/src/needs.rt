@@ -2,9 +2,9 @@
 
 ghost use Rattle.std.specs.Prelude.{◌≡◌, ◌<◌, ◌^◌, ℕ, List, length, slice_get, IfOk};
 ghost use Rattle.std.specs.Option.{option_copied};
-ghost use Rattle.pz_syntax.specs.ClassView.{decl_view, model_view};
+ghost use Rattle.pz_classes_code.specs.pz_syntax.ClassView.{decl_view, model_view};
 ghost use Rattle.pz_classes_code.specs.NumberIn.{number_in};
-ghost use Rattle.pz_classes.specs.ChannelRules as rules;
+ghost use Rattle.pz_classes.specs.pz_classes_rules.ChannelRules as rules;
 ghost use Rattle.pz_classes.specs.devices.Rows.{AreClasses};
 ghost use Rattle.pz_check_instances.specs.devices.Ends.{place_named};
 ghost use Rattle.pz_check_instances.specs.devices.Needs as spec;
@@ -12,7 +12,7 @@ ghost use Rattle.pz_check_instances.specs.devices.Inside.{IsInside};
 
 use pz_classes::{Classes, class_of_instance, instances_of};
 use pz_classes_code::Numbering;
-use pz_syntax::{ChannelEnd, Decl, Instance, Model, Name};
+use pz_classes_code::pz_syntax::{ChannelEnd, Decl, Instance, Model, Name};
 use std::alloc::{AllocError, Global};
 
 /// What an end of a channel needs.

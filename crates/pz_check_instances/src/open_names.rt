@@ -2,12 +2,12 @@
 
 ghost use Rattle.std.specs.Prelude.{◌≡◌, List, ℕ, [], ◌∷◌, ◌++◌, OnOk};
 ghost use Rattle.pz_classes_lineage.specs.Preorder.{outermost};
-ghost use Rattle.pz_classes.specs.Members.{spelled, grouped};
+ghost use Rattle.pz_classes.specs.pz_classes_rules.Members.{spelled, grouped};
 ghost use Rattle.pz_check_instances.specs.devices.NameSets.{names_in};
 ghost use Rattle.pz_check_instances.specs.devices.Open.{HasOpen, kept};
 
 use crate::name_set::NameSet;
-use pz_syntax::{Id, VarGroup};
+use pz_classes_code::pz_syntax::{Id, VarGroup};
 use std::alloc::{AllocError, Global};
 
 /// The names that the open classes declare: a class and its ancestors. A name that several of them

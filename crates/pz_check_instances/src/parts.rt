@@ -2,15 +2,15 @@
 
 ghost use Rattle.std.specs.Prelude.{◌≡◌, []};
 ghost use Rattle.std.specs.Option.{unwrap_or, option_map_or};
-ghost use Rattle.pz_syntax.specs.ClassView.{decl_view, model_view};
-ghost use Rattle.pz_classes.specs.Numbers.{declaration as declared};
-ghost use Rattle.pz_classes.specs.Members as members;
-ghost use Rattle.pz_classes.specs.Members.{grouped};
-ghost use Rattle.pz_classes.specs.Instances as spec;
+ghost use Rattle.pz_classes_code.specs.pz_syntax.ClassView.{decl_view, model_view};
+ghost use Rattle.pz_classes.specs.pz_classes_rules.Numbers.{declaration as declared};
+ghost use Rattle.pz_classes.specs.pz_classes_rules.Members as members;
+ghost use Rattle.pz_classes.specs.pz_classes_rules.Members.{grouped};
+ghost use Rattle.pz_classes.specs.pz_classes_rules.Instances as spec;
 
 use pz_classes::declaration;
-use pz_items::Items;
-use pz_syntax::{Decl, Given, Id, Instance, Model, VarGroup};
+use pz_classes_code::pz_items::Items;
+use pz_classes_code::pz_syntax::{Decl, Given, Id, Instance, Model, VarGroup};
 
 /// What a section has, nothing where it is not written.
 fn written<T>(section: &Option<Items<T>>) -> &[T]

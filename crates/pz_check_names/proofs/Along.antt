@@ -4,12 +4,12 @@ use Rattle.std.specs.List.{list_any, flat_map}
 use Rattle.std.specs.Option.{is_some, option_map_or, option_and_then, option_to_list}
 use Rattle.std.specs.Str.{bytes_eq}
 use Rattle.std.proofs.lemmas.List.Folds.{list_any-append}
-use Rattle.pz_syntax.specs.declared.names.Id.{Id}
-use Rattle.pz_syntax.specs.Classes.{DeclTree, StartTree, ModelTree}
-use Rattle.pz_classes.specs.Numbers.{declaration}
-use Rattle.pz_classes.specs.Members.{from_root}
-use Rattle.pz_classes.specs.Starts.{own_start}
-use Rattle.pz_classes.specs.Words.{is_among}
+use Rattle.pz_classes_code.specs.pz_syntax.declared.names.Id.{Id}
+use Rattle.pz_classes_code.specs.pz_syntax.Classes.{DeclTree, StartTree, ModelTree}
+use Rattle.pz_classes.specs.pz_classes_rules.Numbers.{declaration}
+use Rattle.pz_classes.specs.pz_classes_rules.Members.{from_root}
+use Rattle.pz_classes.specs.pz_classes_rules.Starts.{own_start}
+use Rattle.pz_classes.specs.pz_classes_rules.Words.{is_among}
 use Rattle.pz_check_scopes.specs.Scopes.{Note, outermost}
 use Rattle.pz_check_scopes.specs.devices.Holding.{Holds}
 use Rattle.pz_check_scopes.specs.declared.nested.Nested.{Nested}

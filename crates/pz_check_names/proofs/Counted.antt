@@ -2,14 +2,14 @@
 use Rattle.std.proofs.Common.{◌≡◌, refl, ◌<◌, ◌^◌, List, [], length, Option, Some, None, arith}
 use Rattle.std.specs.List.{All}
 use Rattle.std.specs.Option.{unwrap_or}
-use Rattle.pz_syntax.specs.declared.clusters.Decl.{Decl}
-use Rattle.pz_syntax.specs.declared.clusters.Decl.TheVariants as decl
-use Rattle.pz_syntax.specs.declared.classes.ProcessClass.{ProcessClass}
-use Rattle.pz_syntax.specs.declared.classes.ProcessMethod.{ProcessMethod}
-use Rattle.pz_syntax.specs.ClassView.{decl_view}
-use Rattle.pz_syntax.specs.ModelText.{decl_text}
-use Rattle.pz_classes.specs.Members.{grouped}
-use Rattle.pz_classes.proofs.FewMarks.{process_methods_fit, process_inputs_fit, process_outputs_fit}
+use Rattle.pz_classes_code.specs.pz_syntax.declared.clusters.Decl.{Decl}
+use Rattle.pz_classes_code.specs.pz_syntax.declared.clusters.Decl.TheVariants as decl
+use Rattle.pz_classes_code.specs.pz_syntax.declared.classes.ProcessClass.{ProcessClass}
+use Rattle.pz_classes_code.specs.pz_syntax.declared.classes.ProcessMethod.{ProcessMethod}
+use Rattle.pz_classes_code.specs.pz_syntax.ClassView.{decl_view}
+use Rattle.pz_classes_code.specs.pz_syntax.ModelText.{decl_text}
+use Rattle.pz_classes.specs.pz_classes_rules.Members.{grouped}
+use Rattle.pz_classes.proofs.pz_classes_rules_proofs.FewMarks.{process_methods_fit, process_inputs_fit, process_outputs_fit}
 
 module _ (d : Decl) (class : ProcessClass) (is : d ≡ decl.Process class) (fits : length (decl_text (decl_view d)) < 2 ^ 32) where
   pub inputs_fit : All (λ r. length (grouped r.inputs) < 2 ^ 32) (unwrap_or class.methods [])

@@ -1,16 +1,16 @@
 -- Whether C13 or C18 is violated, word by word.
 use Rattle.std.proofs.Common.{◌≡◌, ◌∙◌, refl, sym, subst, ℕ, zero, suc, Bool, true, false, ◌||◌, IsTrue, List, [], ◌∷◌, Some, slice_get, arith, ◌⊎◌, inl, inr}
-use Rattle.pz_syntax.specs.declared.tokens.Pos.{Pos}
+use Rattle.pz_classes_code.specs.pz_syntax.declared.tokens.Pos.{Pos}
 use Rattle.std.specs.List.{Contains, list_any}
-use Rattle.pz_syntax.specs.Classes.{DeclTree, ModelTree}
+use Rattle.pz_classes_code.specs.pz_syntax.Classes.{DeclTree, ModelTree}
 use Rattle.pz_classes_mentions.specs.declared.mention.Mention.{Mention}
 use Rattle.pz_classes_mentions.specs.declared.local_scope.LocalScope.{LocalScope}
 use Rattle.pz_classes_mentions.specs.Declarations.{parts}
 use Rattle.pz_check_violations.specs.declared.violation.Violation.{Violation}
-use Rattle.pz_classes.specs.Numbers.{declaration}
-use Rattle.pz_classes.specs.Words.{Mentions, place}
-use Rattle.pz_classes.specs.NameRules.{breaks_c13, breaks_c18}
-use Rattle.pz_classes.specs.WordRules.{BreaksWord, c5, c6, c7, c8, c9, c10, c11, c12, c13, c18, c21, c22}
+use Rattle.pz_classes.specs.pz_classes_rules.Numbers.{declaration}
+use Rattle.pz_classes.specs.pz_classes_rules.Words.{Mentions, place}
+use Rattle.pz_classes.specs.pz_classes_rules.NameRules.{breaks_c13, breaks_c18}
+use Rattle.pz_classes.specs.pz_classes_rules.WordRules.{BreaksWord, c5, c6, c7, c8, c9, c10, c11, c12, c13, c18, c21, c22}
 use Rattle.pz_check_violations.specs.Order.{violation}
 use Rattle.pz_check_names.specs.devices.Unsized.{is_unsized, is_unsized_part, is_unsized_class, is_unsized_model}
 use Rattle.pz_check_names.proofs.Lists.{none_in, contained_cases, contained_first, contained_later}

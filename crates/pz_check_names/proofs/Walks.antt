@@ -1,8 +1,8 @@
 -- One class further on the walk.
 use Rattle.std.proofs.Common.{◌≡◌, sym, subst, ◌∙◌, ℕ, suc, ◌<◌, ◌≤◌, List, ◌∷◌, ◌++◌, length, drop, get_or, drop-cons, Option}
-use Rattle.pz_syntax.specs.Classes.{ModelTree}
-use Rattle.pz_classes.specs.Ancestors.{ancestors}
-use Rattle.pz_classes.specs.Preorder.{Opens}
+use Rattle.pz_classes_code.specs.pz_syntax.Classes.{ModelTree}
+use Rattle.pz_classes.specs.pz_classes_rules.Ancestors.{ancestors}
+use Rattle.pz_classes.specs.pz_classes_rules.Preorder.{Opens}
 use Rattle.pz_classes_lineage.specs.Preorder.{visited, outermost}
 use Rattle.pz_classes_lineage.specs.declared.visit.Visit.{Visit}
 use Rattle.pz_check_violations.specs.declared.violation.Violation.{Violation}

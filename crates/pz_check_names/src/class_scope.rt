@@ -1,6 +1,6 @@
 use crate::inherited::Inherited;
-use pz_syntax::Decl;
-use pz_value::ClassId;
+use pz_classes_code::pz_syntax::Decl;
+use pz_classes_code::pz_value::ClassId;
 
 /// A class that a walk has come to, and what it and its ancestors declare.
 #[derive(Drop)]

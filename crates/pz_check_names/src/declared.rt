@@ -1,6 +1,6 @@
 use crate::selectors::Selectors;
 use pz_classes::Classes;
-use pz_syntax::Model;
+use pz_classes_code::pz_syntax::Model;
 
 /// What a model declares: its classes, and the selectors of its data classes.
 #[derive(Drop)]

@@ -3,12 +3,12 @@
 ghost use Rattle.std.specs.Prelude.{◌≡◌, ◌<◌, ◌^◌, [], ◌∷◌, List, ℕ, Bool, Option, None, Some, length, All, OnOk};
 ghost use Rattle.std.specs.List.{list_any};
 ghost use Rattle.std.specs.Option.{is_some, option_map, option_to_list, unwrap_or};
-ghost use Rattle.pz_syntax.specs.Classes.{DeclTree as Tree, process_class, StartTree, ModelTree};
-ghost use Rattle.pz_syntax.specs.ClassView.{decl_view, process_class_view, start_view, model_view};
-ghost use Rattle.pz_syntax.specs.ModelText.{HasFewMarks, decl_text};
-ghost use Rattle.pz_classes.specs.Members.{from_root, grouped, own_fields, own_variables, own_ports};
-ghost use Rattle.pz_classes.specs.CallRules.{is_message};
-ghost use Rattle.pz_classes.specs.Words.{is_among};
+ghost use Rattle.pz_classes_code.specs.pz_syntax.Classes.{DeclTree as Tree, process_class, StartTree, ModelTree};
+ghost use Rattle.pz_classes_code.specs.pz_syntax.ClassView.{decl_view, process_class_view, start_view, model_view};
+ghost use Rattle.pz_classes_code.specs.pz_syntax.ModelText.{HasFewMarks, decl_text};
+ghost use Rattle.pz_classes.specs.pz_classes_rules.Members.{from_root, grouped, own_fields, own_variables, own_ports};
+ghost use Rattle.pz_classes.specs.pz_classes_rules.CallRules.{is_message};
+ghost use Rattle.pz_classes.specs.pz_classes_rules.Words.{is_among};
 ghost use Rattle.pz_classes_lineage.specs.Preorder.{outermost};
 ghost use Rattle.pz_check_names.specs.devices.Shown.{ShowsStarts, called};
 ghost use Rattle.pz_check_names.specs.devices.Inherited.{AreOpen, IsOpen, messages_along, method_along, start_along};
@@ -18,7 +18,7 @@ use crate::methods::{Call, note_methods};
 use crate::names::{has_name, note_optional, note_section};
 use pz_check_scopes::Nested;
 use pz_classes::{Visit, declaration};
-use pz_syntax::{Decl, Model, Name, ProcessClass, Start};
+use pz_classes_code::pz_syntax::{Decl, Model, Name, ProcessClass, Start};
 use std::alloc::{AllocError, Global};
 
 /// What the classes that are open declare: a class that a walk has come to, and its ancestors. Each

@@ -1,12 +1,12 @@
 // The least violation at a word.
 
 ghost use Rattle.std.specs.Prelude.{◌≡◌, [], None, IfOk};
-ghost use Rattle.pz_syntax.specs.ClassView.{model_view};
-ghost use Rattle.pz_syntax.specs.ModelText.{HasFewMarks};
-ghost use Rattle.pz_classes.specs.Ancestors.{ancestors};
-ghost use Rattle.pz_classes.specs.Preorder.{Opens};
+ghost use Rattle.pz_classes_code.specs.pz_syntax.ClassView.{model_view};
+ghost use Rattle.pz_classes_code.specs.pz_syntax.ModelText.{HasFewMarks};
+ghost use Rattle.pz_classes.specs.pz_classes_rules.Ancestors.{ancestors};
+ghost use Rattle.pz_classes.specs.pz_classes_rules.Preorder.{Opens};
 ghost use Rattle.pz_classes.specs.devices.Rows.{AreClasses};
-ghost use Rattle.pz_classes.specs.WordRules.{BreaksWord};
+ghost use Rattle.pz_classes.specs.pz_classes_rules.WordRules.{BreaksWord};
 ghost use Rattle.pz_classes_lineage.specs.Preorder.{visited};
 ghost use Rattle.pz_check_violations.specs.Least.{LeastOf, least_from};
 ghost use Rattle.pz_check_names.specs.devices.Inherited.{IsOpen};
@@ -21,9 +21,9 @@ use crate::stretch::{Stretch, stretch_of};
 use crate::words::least_at_word;
 use pz_check_violations::Violation;
 use pz_classes::{Classes, Visit, declaration};
+use pz_classes_code::pz_syntax::Model;
+use pz_classes_code::pz_value::ClassId;
 use pz_classes_mentions::{Listener, Part, Word, parts_of};
-use pz_syntax::Model;
-use pz_value::ClassId;
 use std::alloc::{AllocError, Global};
 
 /// Finds the least violation in a part of a class, as it is told the words.

@@ -2,12 +2,12 @@
 
 ghost use Rattle.std.specs.Prelude.{◌≡◌, [], ◌∷◌, ◌++◌, List, length, OnOk};
 ghost use Rattle.std.specs.Option.{unwrap_or};
-ghost use Rattle.pz_syntax.specs.declared.classes.Message.{Message as Declared};
+ghost use Rattle.pz_classes_code.specs.pz_syntax.declared.classes.Message.{Message as Declared};
 ghost use Rattle.pz_check_names.specs.devices.Shown.{ShowsMessages};
 
 use pz_check_scopes::Nested;
-use pz_items::Items;
-use pz_syntax::{Id, Message, Name};
+use pz_classes_code::pz_items::Items;
+use pz_classes_code::pz_syntax::{Id, Message, Name};
 use std::alloc::AllocError;
 
 /// A message as it is sent or received: on which port, in which direction, by which name and with

@@ -2,16 +2,16 @@
 
 ghost use Rattle.std.specs.Prelude.{◌≡◌, ◌<◌, ◌^◌, ℕ, [], ◌∷◌, ◌++◌, List, length, map, All, OnOk};
 ghost use Rattle.std.specs.Option.{unwrap_or, option_map};
-ghost use Rattle.pz_syntax.specs.Classes.{ProcessMethodTree as Tree};
-ghost use Rattle.pz_syntax.specs.ClassView.{process_method_view};
-ghost use Rattle.pz_classes.specs.Members.{grouped};
-ghost use Rattle.pz_classes.specs.Methods.{process_signature};
+ghost use Rattle.pz_classes_code.specs.pz_syntax.Classes.{ProcessMethodTree as Tree};
+ghost use Rattle.pz_classes_code.specs.pz_syntax.ClassView.{process_method_view};
+ghost use Rattle.pz_classes.specs.pz_classes_rules.Members.{grouped};
+ghost use Rattle.pz_classes.specs.pz_classes_rules.Methods.{process_signature};
 ghost use Rattle.pz_check_names.specs.devices.Shown.{ShowsMethods, called, signature_of};
 
 use pz_check_scopes::Nested;
 use pz_classes::count_names;
-use pz_items::Items;
-use pz_syntax::{Name, ProcessMethod};
+use pz_classes_code::pz_items::Items;
+use pz_classes_code::pz_syntax::{Name, ProcessMethod};
 use std::alloc::AllocError;
 
 /// A method as it is called: by which name, and with how many inputs and outputs.

@@ -3,16 +3,16 @@
 ghost use Rattle.std.specs.Prelude.{◌≡◌, [], ◌∷◌, ◌++◌, List, IfOk, OnOk};
 ghost use Rattle.std.specs.List.{list_any};
 ghost use Rattle.std.specs.Option.{unwrap_or};
-ghost use Rattle.pz_syntax.specs.declared.names.Id.{Id as Named};
+ghost use Rattle.pz_classes_code.specs.pz_syntax.declared.names.Id.{Id as Named};
 ghost use Rattle.pz_classes_mentions.specs.Stretches.{local_names};
-ghost use Rattle.pz_classes.specs.Members.{grouped, section};
+ghost use Rattle.pz_classes.specs.pz_classes_rules.Members.{grouped, section};
 ghost use Rattle.pz_check_names.specs.devices.Shown.{ShowsNames};
-ghost use Rattle.pz_classes.specs.Words.{is_among};
+ghost use Rattle.pz_classes.specs.pz_classes_rules.Words.{is_among};
 
 use pz_check_scopes::Nested;
+use pz_classes_code::pz_items::Items;
+use pz_classes_code::pz_syntax::{Id, Name, VarGroup};
 use pz_classes_mentions::Locals;
-use pz_items::Items;
-use pz_syntax::{Id, Name, VarGroup};
 use std::alloc::{AllocError, Global};
 
 /// One scope with the names of these variables. The only error is want of memory.

@@ -2,17 +2,17 @@
 
 ghost use Rattle.std.specs.Prelude.{◌≡◌, IfOk};
 ghost use Rattle.std.specs.Option.{option_copied, option_map, option_and_then};
-ghost use Rattle.pz_syntax.specs.Classes.{ModelTree};
-ghost use Rattle.pz_syntax.specs.ClassView.{decl_view, model_view};
-ghost use Rattle.pz_classes.specs.Kinds as kinds;
-ghost use Rattle.pz_classes.specs.NameRules as names;
-ghost use Rattle.pz_classes.specs.Numbers as numbers;
-ghost use Rattle.pz_classes.specs.CallRules as calls;
+ghost use Rattle.pz_classes_code.specs.pz_syntax.Classes.{ModelTree};
+ghost use Rattle.pz_classes_code.specs.pz_syntax.ClassView.{decl_view, model_view};
+ghost use Rattle.pz_classes.specs.pz_classes_rules.Kinds as kinds;
+ghost use Rattle.pz_classes.specs.pz_classes_rules.NameRules as names;
+ghost use Rattle.pz_classes.specs.pz_classes_rules.Numbers as numbers;
+ghost use Rattle.pz_classes.specs.pz_classes_rules.CallRules as calls;
 ghost use Rattle.pz_classes.specs.devices.Rows.{AreClasses};
 
 use pz_classes::{Classes, declaration};
+use pz_classes_code::pz_syntax::{Decl, Model, Name};
 use pz_classes_code::{is_array, is_primitive};
-use pz_syntax::{Decl, Model, Name};
 
 /// The number of the class of this name.
 fn number_of(classes: &Classes, name: &Name) -> Option<u32>

@@ -3,20 +3,20 @@
 ghost use Rattle.std.specs.Prelude.{◌≡◌, Bool, not, ◌&&◌};
 ghost use Rattle.std.specs.List.{list_any};
 ghost use Rattle.std.specs.Option.{is_none};
-ghost use Rattle.pz_syntax.specs.ClassView.{decl_view};
-ghost use Rattle.pz_classes.specs.CallRules as calls;
-ghost use Rattle.pz_classes.specs.Kinds as kinds;
-ghost use Rattle.pz_classes.specs.Members as members;
-ghost use Rattle.pz_classes.specs.Methods as methods;
-ghost use Rattle.pz_classes.specs.NameRules as names;
-ghost use Rattle.pz_classes.specs.Words.{is_among};
+ghost use Rattle.pz_classes_code.specs.pz_syntax.ClassView.{decl_view};
+ghost use Rattle.pz_classes.specs.pz_classes_rules.CallRules as calls;
+ghost use Rattle.pz_classes.specs.pz_classes_rules.Kinds as kinds;
+ghost use Rattle.pz_classes.specs.pz_classes_rules.Members as members;
+ghost use Rattle.pz_classes.specs.pz_classes_rules.Methods as methods;
+ghost use Rattle.pz_classes.specs.pz_classes_rules.NameRules as names;
+ghost use Rattle.pz_classes.specs.pz_classes_rules.Words.{is_among};
 ghost use Rattle.pz_check_names.specs.devices.Scopes.{AreDeclared, IsScope, HasLocals, asked, model_of, decl_of};
 
 use crate::class_scope::ClassScope;
 use crate::declared::Declared;
 use crate::rules::is_primitive_selector;
 use crate::stretch::Stretch;
-use pz_syntax::{Decl, Name};
+use pz_classes_code::pz_syntax::{Decl, Name};
 
 pub(crate) fn is_data(decl: &Decl) -> bool
     ensures { result ≡ kinds.is_data (decl_view decl.now) }

@@ -3,17 +3,17 @@
 ghost use Rattle.std.specs.Prelude.{◌≡◌, ◌<◌, ◌^◌, List, ℕ, ◌||◌, ◌&&◌, false, length, map, nat_eq, All, IfOk, OnOk};
 ghost use Rattle.std.specs.List.{list_any};
 ghost use Rattle.std.specs.Str.{bytes_eq};
-ghost use Rattle.pz_syntax.specs.ClassView.{decl_view, data_method_view, model_view};
-ghost use Rattle.pz_syntax.specs.ModelText.{HasFewMarks, decl_text};
-ghost use Rattle.pz_classes.specs.Members.{section};
-ghost use Rattle.pz_classes.specs.Methods.{signatures, data_signature};
-ghost use Rattle.pz_classes.specs.CallRules.{is_declared};
+ghost use Rattle.pz_classes_code.specs.pz_syntax.ClassView.{decl_view, data_method_view, model_view};
+ghost use Rattle.pz_classes_code.specs.pz_syntax.ModelText.{HasFewMarks, decl_text};
+ghost use Rattle.pz_classes.specs.pz_classes_rules.Members.{section};
+ghost use Rattle.pz_classes.specs.pz_classes_rules.Methods.{signatures, data_signature};
+ghost use Rattle.pz_classes.specs.pz_classes_rules.CallRules.{is_declared};
 ghost use Rattle.pz_check_names.specs.devices.Sets.{has_selector};
 ghost use Rattle.pz_check_names.specs.devices.Scopes.{is_one_of, asked};
 
 use indexmap::IndexSet;
 use pz_classes::count_section;
-use pz_syntax::{DataMethod, Decl, Model, Name};
+use pz_classes_code::pz_syntax::{DataMethod, Decl, Model, Name};
 use std::alloc::{AllocError, Global};
 
 /// A selector, and how many arguments it has.

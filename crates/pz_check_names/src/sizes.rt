@@ -2,19 +2,19 @@
 
 ghost use Rattle.std.specs.Prelude.{◌≡◌, ◌⊎◌, ◌||◌, true, false, IfOk};
 ghost use Rattle.std.specs.List.{list_any};
-ghost use Rattle.pz_syntax.specs.declared.tokens.Pos.{Pos as Place};
-ghost use Rattle.pz_syntax.specs.ClassView.{model_view};
+ghost use Rattle.pz_classes_code.specs.pz_syntax.declared.tokens.Pos.{Pos as Place};
+ghost use Rattle.pz_classes_code.specs.pz_syntax.ClassView.{model_view};
 ghost use Rattle.pz_classes_mentions.specs.Words.{mention};
 ghost use Rattle.pz_classes.specs.devices.Rows.{AreClasses};
-ghost use Rattle.pz_classes.specs.WordRules.{BreaksWord};
+ghost use Rattle.pz_classes.specs.pz_classes_rules.WordRules.{BreaksWord};
 ghost use Rattle.pz_check_violations.specs.Order.{violation};
 ghost use Rattle.pz_check_names.specs.devices.Unsized as spec;
 
 use crate::rules::has_instances;
 use pz_classes::Classes;
 use pz_classes_code::is_unsupported;
+use pz_classes_code::pz_syntax::Model;
 use pz_classes_mentions::{Listener, Part, Word, parts_of};
-use pz_syntax::Model;
 use std::alloc::{AllocError, Global};
 
 /// Whether C13 or C18 is broken at this word.

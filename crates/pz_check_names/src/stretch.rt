@@ -1,11 +1,11 @@
 ghost use Rattle.std.specs.Prelude.{◌≡◌, IfOk};
-ghost use Rattle.pz_classes.specs.Words.{is_among};
+ghost use Rattle.pz_classes.specs.pz_classes_rules.Words.{is_among};
 ghost use Rattle.pz_check_names.specs.devices.Scopes.{HasLocals};
 
 use crate::names::{has_name, scope_of};
 use pz_check_scopes::Nested;
+use pz_classes_code::pz_syntax::Name;
 use pz_classes_mentions::Part;
-use pz_syntax::Name;
 use std::alloc::{AllocError, Global};
 
 /// A part of a class, and its local names in one scope.

@@ -17,8 +17,8 @@ use crate::scopes::{
 use crate::stretch::Stretch;
 use pz_check_violations::{Violation, lesser};
 use pz_classes_code::is_unsupported;
+use pz_classes_code::pz_syntax::{Id, Pos};
 use pz_classes_mentions::Word;
-use pz_syntax::{Id, Pos};
 
 /// The least of what was found before and this rule at this place, if it is broken there.
 fn noted(before: Option<Violation>, broken: bool, rule: u8, pos: Pos) -> Option<Violation>

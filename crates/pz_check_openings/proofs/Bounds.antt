@@ -4,15 +4,15 @@ use Rattle.std.specs.List.{Contains, sum_by}
 use Rattle.std.specs.Option.{option_map_or}
 use Rattle.std.proofs.lemmas.Bool.Decides.{nat_tests}
 use Rattle.std.proofs.lemmas.List.Sums.{sum_by-le-sum_by}
-use Rattle.pz_syntax.specs.declared.names.Id.{Id}
-use Rattle.pz_syntax.specs.Classes.{DeclTree, ProcessMethodTree, ModelTree}
-use Rattle.pz_syntax.specs.Statements.{no_statements}
-use Rattle.pz_check_violations.specs.declared.violation.Violation.{Violation}
-use Rattle.pz_classes.specs.declared.method_id.Counts.{Counts}
-use Rattle.pz_classes.specs.declared.method_id.Counts.TheVariants.{Data, Process}
-use Rattle.pz_classes.specs.declared.method_id.MethodId.{MethodId}
-use Rattle.pz_classes.specs.Members.{grouped}
-use Rattle.pz_classes.specs.Methods.{Signature, method_id, method_with, process_signature}
+use Rattle.pz_classes.specs.pz_syntax.declared.names.Id.{Id}
+use Rattle.pz_classes.specs.pz_syntax.Classes.{DeclTree, ProcessMethodTree, ModelTree}
+use Rattle.pz_classes.specs.pz_syntax.Statements.{no_statements}
+use Rattle.pz_classes.specs.pz_check_violations.declared.violation.Violation.{Violation}
+use Rattle.pz_classes.specs.pz_classes_rules.declared.method_id.Counts.{Counts}
+use Rattle.pz_classes.specs.pz_classes_rules.declared.method_id.Counts.TheVariants.{Data, Process}
+use Rattle.pz_classes.specs.pz_classes_rules.declared.method_id.MethodId.{MethodId}
+use Rattle.pz_classes.specs.pz_classes_rules.Members.{grouped}
+use Rattle.pz_classes.specs.pz_classes_rules.Methods.{Signature, method_id, method_with, process_signature}
 use Rattle.pz_classes_beginnings.specs.Beginning.{begun_all, all_plain_calls, statements_in_all}
 use Rattle.pz_classes_openings.specs.Methods.{method_at, body_at}
 use Rattle.pz_classes_openings.specs.Openings.{begun_at, calls_at, statements_at, called, Leads, itself, further, of_called, opened_to, spread_to}

@@ -3,12 +3,12 @@ use Rattle.std.proofs.Common.{◌≡◌, refl, sym, ap, subst, ◌∙◌, ℕ, z
 use Rattle.std.specs.List.{sum_by}
 use Rattle.std.proofs.lemmas.Bool.Decides.{nat_tests}
 use Rattle.std.proofs.lemmas.List.Sums.{sum_by-cons}
-use Rattle.pz_syntax.specs.declared.names.Id.{Id}
-use Rattle.pz_syntax.specs.Classes.{ProcessMethodTree, ModelTree}
-use Rattle.pz_classes.specs.declared.method_id.Counts.TheVariants.{Process}
-use Rattle.pz_classes.specs.declared.method_id.MethodId.{MethodId}
-use Rattle.pz_classes.specs.Members.{grouped}
-use Rattle.pz_classes.specs.Methods.{Signature, method_id, process_signature}
+use Rattle.pz_classes.specs.pz_syntax.declared.names.Id.{Id}
+use Rattle.pz_classes.specs.pz_syntax.Classes.{ProcessMethodTree, ModelTree}
+use Rattle.pz_classes.specs.pz_classes_rules.declared.method_id.Counts.TheVariants.{Process}
+use Rattle.pz_classes.specs.pz_classes_rules.declared.method_id.MethodId.{MethodId}
+use Rattle.pz_classes.specs.pz_classes_rules.Members.{grouped}
+use Rattle.pz_classes.specs.pz_classes_rules.Methods.{Signature, method_id, process_signature}
 use Rattle.pz_classes_beginnings.specs.Beginning.{begun_all, all_plain_calls, statements_in_all}
 use Rattle.pz_classes_openings.specs.Methods.{method_at}
 use Rattle.pz_classes_openings.specs.Openings.{begun_at, statements_at, called, of_called, opened_to, spread_to}

@@ -3,17 +3,17 @@
 use Rattle.std.proofs.Common.{◌≡◌, refl, ap, subst, ◌∙◌, ℕ, zero, suc, ◌+◌, ◌<◌, ◌≤◌, ◌⊎◌, inl, inr, Bool, true, false, List, [], ◌∷◌, length, map, Option, Some, None, IsTrue, slice_get, if◌then◌else◌, arith}
 use Rattle.std.specs.Option.{option_map, option_map_or, option_or, unwrap_or}
 use Rattle.std.proofs.lemmas.Option.{slice_get_within}
-use Rattle.pz_syntax.specs.declared.names.Id.{Id}
-use Rattle.pz_syntax.specs.Classes.{DeclTree, data_class, process_class, cluster_class, system, DataMethodTree, ModelTree}
-use Rattle.pz_check_violations.specs.declared.violation.Violation.{Violation}
-use Rattle.pz_check_violations.specs.Order.{violation}
+use Rattle.pz_classes.specs.pz_syntax.declared.names.Id.{Id}
+use Rattle.pz_classes.specs.pz_syntax.Classes.{DeclTree, data_class, process_class, cluster_class, system, DataMethodTree, ModelTree}
+use Rattle.pz_classes.specs.pz_check_violations.declared.violation.Violation.{Violation}
+use Rattle.pz_classes.specs.pz_check_violations.Order.{violation}
 use Rattle.pz_classes_lineage.specs.Reached.{GoesRound}
-use Rattle.pz_classes.specs.declared.method_id.Counts.TheVariants.{Process}
-use Rattle.pz_classes.specs.declared.method_id.MethodId.{MethodId}
-use Rattle.pz_classes.specs.Kinds.{is_process}
-use Rattle.pz_classes.specs.Ancestors.{parent, ancestors}
-use Rattle.pz_classes.specs.Methods.{Signature, data_signature, signatures, same_signature, first_with, methods_before, method_id, own_method}
-use Rattle.pz_classes.proofs.Acyclic.{above}
+use Rattle.pz_classes.specs.pz_classes_rules.declared.method_id.Counts.TheVariants.{Process}
+use Rattle.pz_classes.specs.pz_classes_rules.declared.method_id.MethodId.{MethodId}
+use Rattle.pz_classes.specs.pz_classes_rules.Kinds.{is_process}
+use Rattle.pz_classes.specs.pz_classes_rules.Ancestors.{parent, ancestors}
+use Rattle.pz_classes.specs.pz_classes_rules.Methods.{Signature, data_signature, signatures, same_signature, first_with, methods_before, method_id, own_method}
+use Rattle.pz_classes.proofs.pz_classes_rules_proofs.Acyclic.{above}
 use Rattle.pz_check_openings.specs.devices.Through.{plain, called_along, Through, itself, further, RoundThrough, round_through, DeclaresOne}
 
 module _ (Kind : ℕ → Type 0) (m : ModelTree) where

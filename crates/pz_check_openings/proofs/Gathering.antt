@@ -1,9 +1,9 @@
 -- The least of what is found place by place.
 use Rattle.std.proofs.Common.{◌≡◌, refl, sym, subst, ◌∙◌, ℕ, ◌+◌, ◌<◌, ◌≤◌, ◌⊎◌, inl, inr, Option, Some, None, arith}
-use Rattle.pz_check_violations.specs.declared.violation.Violation.{Violation}
-use Rattle.pz_check_violations.specs.Order.{IsLeast}
-use Rattle.pz_check_violations.specs.Least.{LeastOf, sooner}
-use Rattle.pz_check_violations.proofs.TwoLeasts.{sooner_is_least}
+use Rattle.pz_classes.specs.pz_check_violations.declared.violation.Violation.{Violation}
+use Rattle.pz_classes.specs.pz_check_violations.Order.{IsLeast}
+use Rattle.pz_classes.specs.pz_check_violations.Least.{LeastOf, sooner}
+use Rattle.pz_classes.proofs.pz_check_violations_proofs.TwoLeasts.{sooner_is_least}
 use Rattle.pz_check_openings.specs.devices.InClass.{Among}
 
 -- the least of a set is that of the same set in other words

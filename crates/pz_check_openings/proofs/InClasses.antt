@@ -6,15 +6,15 @@ use Rattle.std.proofs.lemmas.Bool.Decides.{nat_tests}
 use Rattle.std.proofs.lemmas.Bool.{eqb-true}
 use Rattle.std.proofs.lemmas.List.Sums.{sum_by-cons}
 use Rattle.std.proofs.lemmas.Option.{slice_get-map}
-use Rattle.pz_syntax.specs.declared.tokens.Pos.{Pos}
-use Rattle.pz_syntax.specs.declared.names.Id.{Id}
-use Rattle.pz_syntax.specs.Classes.{DeclTree, ProcessMethodTree, ModelTree}
-use Rattle.pz_check_violations.specs.declared.violation.Violation.{Violation}
-use Rattle.pz_check_violations.specs.Order.{violation}
-use Rattle.pz_classes.specs.declared.method_id.Counts.TheVariants.{Process}
-use Rattle.pz_classes.specs.declared.method_id.MethodId.{MethodId}
-use Rattle.pz_classes.specs.Members.{grouped}
-use Rattle.pz_classes.specs.Methods.{Signature, method_id, method_with, process_method, process_signature}
+use Rattle.pz_classes.specs.pz_syntax.declared.tokens.Pos.{Pos}
+use Rattle.pz_classes.specs.pz_syntax.declared.names.Id.{Id}
+use Rattle.pz_classes.specs.pz_syntax.Classes.{DeclTree, ProcessMethodTree, ModelTree}
+use Rattle.pz_classes.specs.pz_check_violations.declared.violation.Violation.{Violation}
+use Rattle.pz_classes.specs.pz_check_violations.Order.{violation}
+use Rattle.pz_classes.specs.pz_classes_rules.declared.method_id.Counts.TheVariants.{Process}
+use Rattle.pz_classes.specs.pz_classes_rules.declared.method_id.MethodId.{MethodId}
+use Rattle.pz_classes.specs.pz_classes_rules.Members.{grouped}
+use Rattle.pz_classes.specs.pz_classes_rules.Methods.{Signature, method_id, method_with, process_method, process_signature}
 use Rattle.pz_classes_openings.specs.Methods.{method_at, body_at}
 use Rattle.pz_classes_openings.specs.Openings.{begun_at, calls_at, statements_at, HasMethod, called, Leads, of_called, opened_to, spread_to}
 use Rattle.pz_classes_openings.specs.Openings as opening

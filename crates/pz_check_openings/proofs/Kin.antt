@@ -4,13 +4,13 @@ use Rattle.std.specs.List.{Contains, sum_by}
 use Rattle.std.specs.Option.{option_map}
 use Rattle.std.proofs.lemmas.List.Sums.{sum_by-cons, sum_by-le-sum_by}
 use Rattle.std.proofs.lemmas.Option.{slice_get-map}
-use Rattle.pz_syntax.specs.declared.names.Id.{Id}
-use Rattle.pz_syntax.specs.Classes.{ProcessMethodTree, ModelTree}
-use Rattle.pz_check_violations.specs.declared.violation.Violation.{Violation}
-use Rattle.pz_check_violations.specs.Order.{violation}
-use Rattle.pz_classes.specs.declared.method_id.Counts.TheVariants.{Process}
-use Rattle.pz_classes.specs.Members.{grouped}
-use Rattle.pz_classes.specs.Methods.{Signature, method_id, process_signature}
+use Rattle.pz_classes.specs.pz_syntax.declared.names.Id.{Id}
+use Rattle.pz_classes.specs.pz_syntax.Classes.{ProcessMethodTree, ModelTree}
+use Rattle.pz_classes.specs.pz_check_violations.declared.violation.Violation.{Violation}
+use Rattle.pz_classes.specs.pz_check_violations.Order.{violation}
+use Rattle.pz_classes.specs.pz_classes_rules.declared.method_id.Counts.TheVariants.{Process}
+use Rattle.pz_classes.specs.pz_classes_rules.Members.{grouped}
+use Rattle.pz_classes.specs.pz_classes_rules.Methods.{Signature, method_id, process_signature}
 use Rattle.pz_classes_openings.specs.Methods.{method_at}
 use Rattle.pz_classes_openings.specs.Openings.{called}
 use Rattle.pz_classes_openings.proofs.Found.{found_process}

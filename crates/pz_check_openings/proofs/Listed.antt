@@ -3,12 +3,12 @@ use Rattle.std.proofs.Common.{◌≡◌, refl, sym, ap, ◌∙◌, ℕ, zero, su
 use Rattle.std.specs.List.{flat_map}
 use Rattle.std.specs.Option.{option_map, unwrap_or}
 use Rattle.std.proofs.lemmas.Option.{slice_get-map}
-use Rattle.pz_syntax.specs.declared.clusters.Decl.{Decl}
-use Rattle.pz_syntax.specs.declared.clusters.Decl.TheVariants as decl
-use Rattle.pz_syntax.specs.declared.classes.ProcessClass.{ProcessClass}
-use Rattle.pz_syntax.specs.declared.classes.ProcessMethod.{ProcessMethod}
-use Rattle.pz_syntax.specs.ClassView.{decl_view, process_method_view}
-use Rattle.pz_syntax.specs.Classes.{DeclTree, data_class, process_class, cluster_class, system, DataMethodTree, ProcessMethodTree, ModelTree}
+use Rattle.pz_classes.specs.pz_syntax.declared.clusters.Decl.{Decl}
+use Rattle.pz_classes.specs.pz_syntax.declared.clusters.Decl.TheVariants as decl
+use Rattle.pz_classes.specs.pz_syntax.declared.classes.ProcessClass.{ProcessClass}
+use Rattle.pz_classes.specs.pz_syntax.declared.classes.ProcessMethod.{ProcessMethod}
+use Rattle.pz_classes.specs.pz_syntax.ClassView.{decl_view, process_method_view}
+use Rattle.pz_classes.specs.pz_syntax.Classes.{DeclTree, data_class, process_class, cluster_class, system, DataMethodTree, ProcessMethodTree, ModelTree}
 use Rattle.pz_classes_openings.specs.Methods.{declared_methods, methods, method_at}
 use Rattle.pz_check_openings.specs.declared.outline.Outline.{Outline}
 use Rattle.pz_check_openings.specs.devices.Outlines.{outline_of, nones, declared_outlines, outlines}

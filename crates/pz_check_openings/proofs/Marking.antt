@@ -1,15 +1,15 @@
 -- What is found in classes that declare a suspect is what the rule on rounds says.
 use Rattle.std.proofs.Common.{◌≡◌, sym, ap, subst, ◌∙◌, ℕ, suc, ◌+◌, ◌<◌, ◌≤◌, Bool, true, false, List, length, Option, Some, None, arith}
 use Rattle.std.proofs.lemmas.Option.{slice_get_within}
-use Rattle.pz_syntax.specs.Classes.{ModelTree}
-use Rattle.pz_check_violations.specs.declared.violation.Violation.{Violation}
-use Rattle.pz_check_violations.specs.Least.{LeastOf}
+use Rattle.pz_classes.specs.pz_syntax.Classes.{ModelTree}
+use Rattle.pz_classes.specs.pz_check_violations.declared.violation.Violation.{Violation}
+use Rattle.pz_classes.specs.pz_check_violations.Least.{LeastOf}
 use Rattle.pz_classes_lineage.specs.Reached.{GoesRound}
-use Rattle.pz_classes.specs.Ancestors.{parent, ancestors}
-use Rattle.pz_classes.specs.Methods.{signatures, methods_before}
-use Rattle.pz_classes.specs.Numbers.{declaration}
-use Rattle.pz_classes.specs.Soundness.{IsSound}
-use Rattle.pz_classes.proofs.Rounds.{nobody_goes_round}
+use Rattle.pz_classes.specs.pz_classes_rules.Ancestors.{parent, ancestors}
+use Rattle.pz_classes.specs.pz_classes_rules.Methods.{signatures, methods_before}
+use Rattle.pz_classes.specs.pz_classes_rules.Numbers.{declaration}
+use Rattle.pz_classes.specs.pz_classes_rules.Soundness.{IsSound}
+use Rattle.pz_classes.proofs.pz_classes_rules_proofs.Rounds.{nobody_goes_round}
 use Rattle.pz_classes_openings.specs.OpeningRules.{BreaksC23}
 use Rattle.pz_check_openings.specs.declared.outline.Outline.{Outline}
 use Rattle.pz_check_openings.specs.devices.Outlines.{outlines}

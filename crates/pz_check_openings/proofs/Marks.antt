@@ -4,10 +4,10 @@ use Rattle.std.specs.List.{sum_by}
 use Rattle.std.specs.Option.{option_map, unwrap_or}
 use Rattle.std.proofs.lemmas.List.Sums.{sum_by_more}
 use Rattle.std.proofs.lemmas.Option.{slice_get-map, slice_get-get_or, slice_get_within, get_or_from_slice_get}
-use Rattle.pz_syntax.specs.Classes.{DeclTree, ModelTree}
-use Rattle.pz_syntax.specs.ClassView.{decl_view}
-use Rattle.pz_syntax.specs.declared.clusters.Decl.{Decl}
-use Rattle.pz_classes.specs.Methods.{signatures, methods_before}
+use Rattle.pz_classes.specs.pz_syntax.Classes.{DeclTree, ModelTree}
+use Rattle.pz_classes.specs.pz_syntax.ClassView.{decl_view}
+use Rattle.pz_classes.specs.pz_syntax.declared.clusters.Decl.{Decl}
+use Rattle.pz_classes.specs.pz_classes_rules.Methods.{signatures, methods_before}
 use Rattle.pz_check_openings.specs.declared.outline.Outline.{Outline}
 use Rattle.pz_check_openings.specs.devices.Suspects.{is_marked, AreMarked}
 

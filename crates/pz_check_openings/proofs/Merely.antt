@@ -4,8 +4,8 @@ use Rattle.std.proofs.Math.Logic.{∥∥₁_elim}
 use Rattle.std.proofs.Math.Nat.{ℕ_set}
 use Rattle.std.specs.Coded.{coded_option}
 use base.Stored.{Coded-set}
-use Rattle.pz_classes.specs.declared.method_id.MethodId.{MethodId}
-use Rattle.pz_classes.specs.contracts.method_id.MethodId as id_contract
+use Rattle.pz_classes.specs.pz_classes_rules.declared.method_id.MethodId.{MethodId}
+use Rattle.pz_classes.specs.pz_classes_rules.contracts.method_id.MethodId as id_contract
 
 pub count_merely : {A : Type 0} (n k : ℕ) → ∥ A ∥₁ → (A → n ≡ k) → n ≡ k
 count_merely n k a is = ∥∥₁_elim a (ℕ_set n k) is

@@ -2,9 +2,9 @@
 use Rattle.std.proofs.Common.{◌≡◌, refl, ℕ, ◌≤◌, max, fold, Bool, true, false, ◌||◌, not, nat_le, IsTrue, List, [], ◌∷◌, map, Option, Some, None, slice_get, arith}
 use Rattle.std.specs.Option.{option_map_or}
 use Rattle.std.proofs.lemmas.Bool.Decides.{nat_tests}
-use Rattle.pz_syntax.specs.declared.names.Id.{Id}
-use Rattle.pz_classes_code.specs.declared.numbering.Numbering.{Numbering}
-use Rattle.pz_classes_code.specs.NumberIn.{number_in}
+use Rattle.pz_classes.specs.pz_syntax.declared.names.Id.{Id}
+use Rattle.pz_classes.specs.pz_classes_code.declared.numbering.Numbering.{Numbering}
+use Rattle.pz_classes.specs.pz_classes_code.NumberIn.{number_in}
 use Rattle.pz_check_calls.specs.Calls.{total_in}
 use Rattle.pz_check_openings.specs.declared.outline.Outline.{Outline}
 use Rattle.pz_check_openings.specs.devices.Settling.{value_of, is_plain}

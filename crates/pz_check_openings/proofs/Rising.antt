@@ -4,15 +4,15 @@ use Rattle.std.proofs.Common.{◌≡◌, refl, sym, ap, subst, ◌∙◌, ℕ, z
 use Rattle.std.specs.List.{Contains, sum_by}
 use Rattle.std.specs.Option.{option_map_or, option_or}
 use Rattle.std.proofs.lemmas.List.Sums.{sum_by-cons}
-use Rattle.pz_syntax.specs.declared.names.Id.{Id}
-use Rattle.pz_syntax.specs.Classes.{DeclTree, ProcessMethodTree, ModelTree}
+use Rattle.pz_classes.specs.pz_syntax.declared.names.Id.{Id}
+use Rattle.pz_classes.specs.pz_syntax.Classes.{DeclTree, ProcessMethodTree, ModelTree}
 use Rattle.pz_classes_lineage.specs.Reached.{GoesRound}
-use Rattle.pz_classes.specs.declared.method_id.Counts.TheVariants.{Process}
-use Rattle.pz_classes.specs.declared.method_id.MethodId.{MethodId}
-use Rattle.pz_classes.specs.Ancestors.{parent, ancestors}
-use Rattle.pz_classes.specs.Kinds.{is_process}
-use Rattle.pz_classes.specs.Methods.{Signature, method_id, methods_before, nearest, own_method, process_method, signatures}
-use Rattle.pz_classes.specs.Numbers.{declaration}
+use Rattle.pz_classes.specs.pz_classes_rules.declared.method_id.Counts.TheVariants.{Process}
+use Rattle.pz_classes.specs.pz_classes_rules.declared.method_id.MethodId.{MethodId}
+use Rattle.pz_classes.specs.pz_classes_rules.Ancestors.{parent, ancestors}
+use Rattle.pz_classes.specs.pz_classes_rules.Kinds.{is_process}
+use Rattle.pz_classes.specs.pz_classes_rules.Methods.{Signature, method_id, methods_before, nearest, own_method, process_method, signatures}
+use Rattle.pz_classes.specs.pz_classes_rules.Numbers.{declaration}
 use Rattle.pz_classes_openings.specs.Methods.{method_at}
 use Rattle.pz_classes_openings.specs.Openings.{begun_at, calls_at, statements_at, called, of_called, opened_to, spread_to}
 use Rattle.pz_check_openings.specs.declared.outline.Outline.{Outline}

@@ -1,18 +1,18 @@
 -- What is found in classes that declare one of the methods that are kept is what the rule on sizes says.
 use Rattle.std.proofs.Common.{◌≡◌, refl, sym, subst, ◌∙◌, ℕ, suc, ◌+◌, ◌<◌, Bool, true, List, length, Option, Some, None, slice_get, zero, IsTrue, arith}
 use Rattle.std.proofs.lemmas.Option.{slice_get_within}
-use Rattle.pz_syntax.specs.Classes.{DeclTree, ProcessMethodTree, ModelTree}
-use Rattle.pz_check_violations.specs.declared.violation.Violation.{Violation}
-use Rattle.pz_check_violations.specs.Order.{violation}
-use Rattle.pz_check_violations.specs.Least.{LeastOf}
+use Rattle.pz_classes.specs.pz_syntax.Classes.{DeclTree, ProcessMethodTree, ModelTree}
+use Rattle.pz_classes.specs.pz_check_violations.declared.violation.Violation.{Violation}
+use Rattle.pz_classes.specs.pz_check_violations.Order.{violation}
+use Rattle.pz_classes.specs.pz_check_violations.Least.{LeastOf}
 use Rattle.pz_classes_lineage.specs.Reached.{GoesRound}
-use Rattle.pz_classes.specs.Ancestors.{parent, ancestors}
-use Rattle.pz_classes.specs.Kinds.{is_process}
-use Rattle.pz_classes.specs.Members.{grouped}
-use Rattle.pz_classes.specs.Methods.{Signature, method_id, method_with, process_method, process_signature}
-use Rattle.pz_classes.specs.Numbers.{declaration}
-use Rattle.pz_classes.specs.Soundness.{IsSound}
-use Rattle.pz_classes.proofs.Rounds.{nobody_goes_round}
+use Rattle.pz_classes.specs.pz_classes_rules.Ancestors.{parent, ancestors}
+use Rattle.pz_classes.specs.pz_classes_rules.Kinds.{is_process}
+use Rattle.pz_classes.specs.pz_classes_rules.Members.{grouped}
+use Rattle.pz_classes.specs.pz_classes_rules.Methods.{Signature, method_id, method_with, process_method, process_signature}
+use Rattle.pz_classes.specs.pz_classes_rules.Numbers.{declaration}
+use Rattle.pz_classes.specs.pz_classes_rules.Soundness.{IsSound}
+use Rattle.pz_classes.proofs.pz_classes_rules_proofs.Rounds.{nobody_goes_round}
 use Rattle.pz_classes_openings.specs.Methods.{method_at}
 use Rattle.pz_classes_openings.specs.Openings.{HasMethod, spread_to}
 use Rattle.pz_classes_openings.specs.OpeningRules.{BreaksC24, too_large}

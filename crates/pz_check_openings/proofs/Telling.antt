@@ -4,15 +4,15 @@ use Rattle.std.specs.Option.{option_map_or, option_map}
 use Rattle.std.proofs.lemmas.Bool.{eqb-true}
 use Rattle.std.proofs.lemmas.Bool.Decides.{nat_tests}
 use Rattle.std.proofs.lemmas.Option.{slice_get_within}
-use Rattle.pz_syntax.specs.Classes.{DeclTree, ModelTree}
-use Rattle.pz_check_violations.specs.declared.violation.Violation.{Violation}
-use Rattle.pz_check_violations.specs.Order.{violation, IsLeast}
-use Rattle.pz_check_violations.specs.Least.{LeastOf}
-use Rattle.pz_check_violations.proofs.Order.{not_before_itself}
-use Rattle.pz_classes.specs.declared.method_id.MethodId.{MethodId}
-use Rattle.pz_classes.specs.Numbers.{declaration}
-use Rattle.pz_classes.specs.Kinds.{is_process}
-use Rattle.pz_classes.specs.Methods.{method_id, process_method}
+use Rattle.pz_classes.specs.pz_syntax.Classes.{DeclTree, ModelTree}
+use Rattle.pz_classes.specs.pz_check_violations.declared.violation.Violation.{Violation}
+use Rattle.pz_classes.specs.pz_check_violations.Order.{violation, IsLeast}
+use Rattle.pz_classes.specs.pz_check_violations.Least.{LeastOf}
+use Rattle.pz_classes.proofs.pz_check_violations_proofs.Order.{not_before_itself}
+use Rattle.pz_classes.specs.pz_classes_rules.declared.method_id.MethodId.{MethodId}
+use Rattle.pz_classes.specs.pz_classes_rules.Numbers.{declaration}
+use Rattle.pz_classes.specs.pz_classes_rules.Kinds.{is_process}
+use Rattle.pz_classes.specs.pz_classes_rules.Methods.{method_id, process_method}
 use Rattle.pz_classes_openings.specs.OpeningRules.{BreaksC23, BreaksC24, Opens, IsOpeningViolation, in_rounds, in_sizes}
 use Rattle.pz_check_calls.specs.declared.graph.Method.{Method}
 use Rattle.pz_check_calls.specs.Calls.{IsRound, IsLarge}
@@ -104,8 +104,8 @@ module _ (m : ModelTree) (os : List (Option Outline)) (c : ℕ) where
         least = λ w other. least w other;
       }
         where
-          least : (w : Violation) → LargeAt m os c k w → Rattle.pz_check_violations.specs.Order.is_before w (violation 24 o.name.pos) ≡ false
-          least _ (large_at p at finds much) = subst (λ (q : Outline). Rattle.pz_check_violations.specs.Order.is_before (violation 24 p.name.pos) (violation 24 q.name.pos) ≡ false) (same p at) (not_before_itself (violation 24 p.name.pos))
+          least : (w : Violation) → LargeAt m os c k w → Rattle.pz_classes.specs.pz_check_violations.Order.is_before w (violation 24 o.name.pos) ≡ false
+          least _ (large_at p at finds much) = subst (λ (q : Outline). Rattle.pz_classes.specs.pz_check_violations.Order.is_before (violation 24 p.name.pos) (violation 24 q.name.pos) ≡ false) (same p at) (not_before_itself (violation 24 p.name.pos))
 
 -- where all methods keep to bounds, nothing is told
 pub told_settled : (m : ModelTree) (os seen : List (Option Outline)) (bound : List ℕ → ℕ) → seen ≡ os → os ≡ outlines m → ((k : ℕ) (o : Outline) → slice_get seen k ≡ Some (Some o) → Settles bound o) → Tells m None

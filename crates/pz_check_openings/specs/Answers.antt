@@ -1,7 +1,7 @@
 -- What a search for the rules of opening answers.
 use Rattle.std.specs.Prelude.{Option, Some, None}
-use Rattle.pz_syntax.specs.Classes.{ModelTree}
-use Rattle.pz_check_violations.specs.declared.violation.Violation.{Violation}
+use Rattle.pz_classes.specs.pz_syntax.Classes.{ModelTree}
+use Rattle.pz_classes.specs.pz_check_violations.declared.violation.Violation.{Violation}
 use Rattle.pz_classes_openings.specs.OpeningRules.{Opens, IsOpeningViolation}
 
 -- none where neither rule is violated, else what is told

@@ -1,14 +1,14 @@
 // Which classes declare one of some methods.
 
 ghost use Rattle.std.specs.Prelude.{◌≡◌, ◌≤◌, ◌<◌, ◌+◌, ℕ, Some, length, min, slice_get, IsTrue, IfOk};
-ghost use Rattle.pz_syntax.specs.ClassView.{decl_view, model_view};
-ghost use Rattle.pz_classes.specs.Methods.{signatures};
+ghost use Rattle.pz_classes.specs.pz_syntax.ClassView.{decl_view, model_view};
+ghost use Rattle.pz_classes.specs.pz_classes_rules.Methods.{signatures};
 ghost use Rattle.pz_check_openings.specs.devices.Suspects as spec;
 ghost use Rattle.pz_check_openings.specs.devices.Suspects.{AreMarked};
 ghost use Rattle.pz_check_openings.specs.declared.outline.Outline.{Outline as Sketch};
 
 use crate::outline::Outline;
-use pz_syntax::{Decl, Model};
+use pz_classes::pz_syntax::{Decl, Model};
 use std::alloc::{AllocError, Global};
 
 /// How many methods a class declares itself.

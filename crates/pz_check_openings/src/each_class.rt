@@ -1,10 +1,11 @@
 // The rules class by class.
 
 ghost use Rattle.std.specs.Prelude.{◌≡◌, ◌<◌, ◌+◌, length, IfOk};
-ghost use Rattle.pz_check_violations.specs.Least.{LeastOf};
+ghost use Rattle.pz_classes.specs.pz_check_violations.Least.{LeastOf};
 ghost use Rattle.pz_check_calls.specs.Calls.{AreTotals};
 ghost use Rattle.pz_classes.specs.CheckedView.{checked_model, checked_classes};
-ghost use Rattle.pz_classes.specs.Tables.{HasClass, class_id};
+ghost use Rattle.pz_classes.specs.pz_classes_rules.ClassNames.{class_id};
+ghost use Rattle.pz_classes.specs.Tables.{HasClass};
 ghost use Rattle.pz_check_openings.specs.devices.InClass as spec;
 ghost use Rattle.pz_check_openings.specs.devices.InClass.{Among, RoundIn, LargeAt, LargeIn};
 ghost use Rattle.pz_check_openings.specs.devices.Suspects.{Marked};
@@ -14,9 +15,9 @@ use crate::in_class::methods_in;
 use crate::lookup::{called, count, is_process};
 use crate::outline::Outline;
 use pz_check_calls::{Method, is_large, least_round, totals};
-use pz_check_violations::{Violation, sooner};
 use pz_classes::Checked;
-use pz_value::ClassId;
+use pz_classes::pz_check_violations::{Violation, sooner};
+use pz_classes::pz_value::ClassId;
 use std::alloc::{AllocError, Global};
 
 const TOO_LARGE: u8 = 24;

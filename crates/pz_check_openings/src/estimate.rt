@@ -9,9 +9,9 @@ use crate::settled::{is_plain, total_by, value_of};
 use crate::suspects::is_suspect;
 use pz_check_calls::MANY;
 use pz_check_components::components;
-use pz_classes_code::Numbering;
-use pz_items::Items;
-use pz_syntax::Id;
+use pz_classes::pz_classes_code::Numbering;
+use pz_classes::pz_items::Items;
+use pz_classes::pz_syntax::Id;
 use std::alloc::{AllocError, Global};
 
 /// So many empty rows. The only error is want of memory.

@@ -12,9 +12,9 @@ ghost use Rattle.pz_check_openings.specs.declared.outline.Outline.{Outline as Sk
 use crate::outline::Outline;
 use crate::settled::{is_plain, total_by, value_of};
 use pz_check_calls::MANY;
-use pz_classes_code::Numbering;
-use pz_items::Items;
-use pz_syntax::{Id, Name};
+use pz_classes::pz_classes_code::Numbering;
+use pz_classes::pz_items::Items;
+use pz_classes::pz_syntax::{Id, Name};
 use std::alloc::{AllocError, Global};
 
 /// Whether by the bounds the method may be too large with all that opens out of it.

@@ -9,9 +9,9 @@ use crate::lookup::called;
 use crate::outline::Outline;
 use pz_check_calls::{Call, Method};
 use pz_classes::Checked;
-use pz_items::Items;
-use pz_syntax::Id;
-use pz_value::ClassId;
+use pz_classes::pz_items::Items;
+use pz_classes::pz_syntax::Id;
+use pz_classes::pz_value::ClassId;
 use std::alloc::{AllocError, Global};
 
 /// Adds the call, where the class has its method. The only error is want of memory.

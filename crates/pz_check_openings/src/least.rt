@@ -1,7 +1,7 @@
 // What is told of the rules of opening.
 
 ghost use Rattle.std.specs.Prelude.{◌≡◌, IfOk};
-ghost use Rattle.pz_check_violations.specs.Least.{LeastOf};
+ghost use Rattle.pz_classes.specs.pz_check_violations.Least.{LeastOf};
 ghost use Rattle.pz_classes_openings.specs.OpeningRules.{BreaksC23, BreaksC24};
 ghost use Rattle.pz_check_openings.specs.devices.Outlines as spec;
 ghost use Rattle.pz_classes.specs.CheckedView.{checked_model};
@@ -14,8 +14,8 @@ use crate::heavy::heavy_of;
 use crate::outline::{Outline, outlines_of};
 use crate::settled::are_settled;
 use crate::suspects::suspects_of;
-use pz_check_violations::Violation;
 use pz_classes::Checked;
+use pz_classes::pz_check_violations::Violation;
 use std::alloc::{AllocError, Global};
 
 /// The least call by which a method begins with itself in some class. The only error is want of

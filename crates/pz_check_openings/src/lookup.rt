@@ -2,16 +2,16 @@
 
 ghost use Rattle.std.specs.Prelude.{◌≡◌, ◌<◌, ◌+◌, false, length};
 ghost use Rattle.std.specs.Option.{option_map_or};
-ghost use Rattle.pz_value.specs.declared.value.ClassId.{ClassId as Number};
+ghost use Rattle.pz_classes.specs.pz_value.declared.value.ClassId.{ClassId as Number};
 ghost use Rattle.pz_classes.specs.CheckedView.{checked_model, checked_classes};
-ghost use Rattle.pz_classes.specs.Kinds as kinds;
-ghost use Rattle.pz_classes.specs.Methods as methods;
-ghost use Rattle.pz_classes.specs.Numbers as numbers;
+ghost use Rattle.pz_classes.specs.pz_classes_rules.Kinds as kinds;
+ghost use Rattle.pz_classes.specs.pz_classes_rules.Methods as methods;
+ghost use Rattle.pz_classes.specs.pz_classes_rules.Numbers as numbers;
 ghost use Rattle.pz_classes.specs.Tables.{HasClass};
 
+use pz_classes::pz_syntax::{Decl, Name};
+use pz_classes::pz_value::ClassId;
 use pz_classes::{Checked, MethodId, declaration};
-use pz_syntax::{Decl, Name};
-use pz_value::ClassId;
 
 /// How many numbers of classes there are.
 pub(crate) fn count(checked: &Checked) -> u32

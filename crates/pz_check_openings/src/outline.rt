@@ -2,18 +2,18 @@
 
 ghost use Rattle.std.specs.Prelude.{◌≡◌, ◌<◌, ◌^◌, ◌++◌, Some, None, length, map, All, IfOk, OnOk};
 ghost use Rattle.std.specs.List.{flat_map};
-ghost use Rattle.pz_syntax.specs.ClassView.{decl_view, model_view, data_method_view, process_method_view};
-ghost use Rattle.pz_syntax.specs.ModelText.{decl_text, HasFewMarks};
-ghost use Rattle.pz_syntax.specs.StatementView.{sequence_view};
-ghost use Rattle.pz_classes.specs.Members.{grouped};
+ghost use Rattle.pz_classes.specs.pz_syntax.ClassView.{decl_view, model_view, data_method_view, process_method_view};
+ghost use Rattle.pz_classes.specs.pz_syntax.ModelText.{decl_text, HasFewMarks};
+ghost use Rattle.pz_classes.specs.pz_syntax.StatementView.{sequence_view};
+ghost use Rattle.pz_classes.specs.pz_classes_rules.Members.{grouped};
 ghost use Rattle.pz_classes_beginnings.specs.Beginning.{begun_all, all_plain_calls};
 ghost use Rattle.pz_check_openings.specs.devices.Outlines as spec;
 
 use pz_check_calls::MANY;
 use pz_classes::count_names;
+use pz_classes::pz_items::Items;
+use pz_classes::pz_syntax::{Decl, Id, Model, ProcessMethod, Stmt};
 use pz_classes_beginnings::{add_begun, add_plain_calls, count_up_to};
-use pz_items::Items;
-use pz_syntax::{Decl, Id, Model, ProcessMethod, Stmt};
 use std::alloc::{AllocError, Global};
 
 /// A process method: its name, its counts, how many statements its body has as far as `MANY`, the

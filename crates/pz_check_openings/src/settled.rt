@@ -10,8 +10,8 @@ ghost use Rattle.pz_check_openings.specs.declared.outline.Outline.{Outline as Sk
 
 use crate::outline::Outline;
 use pz_check_calls::MANY;
-use pz_classes_code::Numbering;
-use pz_syntax::{Id, Name};
+use pz_classes::pz_classes_code::Numbering;
+use pz_classes::pz_syntax::{Id, Name};
 
 /// The bound of the name; 0 where it has none.
 pub(crate) fn value_of(names: &Numbering, bounds: &[u32], name: &Name) -> u32

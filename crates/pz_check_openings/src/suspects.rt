@@ -10,9 +10,9 @@ ghost use Rattle.pz_check_openings.specs.declared.outline.Outline.{Outline as Sk
 
 use crate::outline::Outline;
 use crate::settled::{is_plain, value_of};
-use pz_classes_code::Numbering;
-use pz_items::Items;
-use pz_syntax::Id;
+use pz_classes::pz_classes_code::Numbering;
+use pz_classes::pz_items::Items;
+use pz_classes::pz_syntax::Id;
 use std::alloc::{AllocError, Global};
 
 /// The highest rank of these calls; 0 where there are none.

@@ -4,10 +4,10 @@ use Rattle.std.specs.List.{Contains}
 use Rattle.std.specs.Option.{option_map, option_map_or}
 use Rattle.std.proofs.lemmas.Option.{slice_get-map}
 use Rattle.std.proofs.lemmas.List.Elements.{Contains-append_left, Contains-append_right, Contains-append_cases}
-use Rattle.pz_syntax.specs.declared.clusters.Instance.{Instance}
-use Rattle.pz_syntax.specs.Classes.{DeclTree, ModelTree}
-use Rattle.pz_classes.specs.Numbers.{declaration}
-use Rattle.pz_classes.specs.Instances.{instance_class}
+use Rattle.pz_classes.specs.pz_syntax.declared.clusters.Instance.{Instance}
+use Rattle.pz_classes.specs.pz_syntax.Classes.{DeclTree, ModelTree}
+use Rattle.pz_classes.specs.pz_classes_rules.Numbers.{declaration}
+use Rattle.pz_classes.specs.pz_classes_rules.Instances.{instance_class}
 use Rattle.pz_check_size.specs.declared.nodes.Held.{Held}
 use Rattle.pz_check_size.specs.declared.nodes.Node.{Node}
 use Rattle.pz_check_size.specs.devices.Nodes.{held_of, all_held, node_of, nodes}

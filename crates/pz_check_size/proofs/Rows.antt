@@ -1,13 +1,13 @@
 -- Small models: what is refused in them, and how large they are.
 use Rattle.std.proofs.Common.{◌≡◌, refl, ℕ, List, [], ◌∷◌, Some, None, codes}
-use Rattle.pz_syntax.specs.declared.tokens.Pos.{Pos}
-use Rattle.pz_syntax.specs.declared.names.Id.{Id}
-use Rattle.pz_syntax.specs.declared.clusters.Instance.{Instance}
-use Rattle.pz_syntax.specs.declared.clusters.Channel.{Channel}
-use Rattle.pz_syntax.specs.declared.clusters.SystemDecl.{SystemDecl}
-use Rattle.pz_syntax.specs.Classes.{DeclTree, process_class, cluster_class, system, ModelTree}
+use Rattle.pz_classes.specs.pz_syntax.declared.tokens.Pos.{Pos}
+use Rattle.pz_classes.specs.pz_syntax.declared.names.Id.{Id}
+use Rattle.pz_classes.specs.pz_syntax.declared.clusters.Instance.{Instance}
+use Rattle.pz_classes.specs.pz_syntax.declared.clusters.Channel.{Channel}
+use Rattle.pz_classes.specs.pz_syntax.declared.clusters.SystemDecl.{SystemDecl}
+use Rattle.pz_classes.specs.pz_syntax.Classes.{DeclTree, process_class, cluster_class, system, ModelTree}
 use Rattle.pz_check_violations.specs.Order.{violation}
-use Rattle.pz_classes.specs.SizeRules.{system_size}
+use Rattle.pz_classes.specs.pz_classes_rules.SizeRules.{system_size}
 use Rattle.pz_check_size.specs.devices.Nodes.{nodes}
 use Rattle.pz_check_size.specs.devices.LeadingBack.{back_among}
 

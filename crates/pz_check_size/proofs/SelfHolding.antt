@@ -8,16 +8,16 @@ use Rattle.std.proofs.lemmas.Bool.Decides.{nat_tests}
 use Rattle.std.proofs.lemmas.List.{length-map}
 use Rattle.std.proofs.lemmas.Option.{slice_get_within}
 use Rattle.std.specs.declared.alloc.AllocError.{AllocError}
-use Rattle.pz_syntax.specs.declared.tokens.Pos.{Pos}
-use Rattle.pz_syntax.specs.Classes.{ModelTree}
+use Rattle.pz_classes.specs.pz_syntax.declared.tokens.Pos.{Pos}
+use Rattle.pz_classes.specs.pz_syntax.Classes.{ModelTree}
 use Rattle.pz_check_violations.specs.declared.violation.Violation.{Violation}
 use Rattle.pz_check_violations.specs.Order.{violation}
 use Rattle.pz_check_violations.specs.Least.{LeastOf, listed, least_from, Member}
 use Rattle.pz_check_violations.proofs.Members.{member_left, member_right, member_cases, listed_is, is_listed}
 use Rattle.pz_check_violations.proofs.Leasts as leasts
-use Rattle.pz_classes.specs.Kinds.{is_cluster}
-use Rattle.pz_classes.specs.Instances.{instances}
-use Rattle.pz_classes.specs.InstanceRules.{Holds, directly, through, BreaksC15, holds_itself}
+use Rattle.pz_classes.specs.pz_classes_rules.Kinds.{is_cluster}
+use Rattle.pz_classes.specs.pz_classes_rules.Instances.{instances}
+use Rattle.pz_classes.specs.pz_classes_rules.InstanceRules.{Holds, directly, through, BreaksC15, holds_itself}
 use Rattle.pz_check_components.specs.Graph.{targets, Reaches, itself, further, number_of, AreComponents}
 use Rattle.pz_check_components.proofs.Walks.{reaches_on}
 use Rattle.pz_check_size.specs.declared.nodes.Held.{Held}

@@ -2,15 +2,15 @@
 use Rattle.std.proofs.Common.{◌≡◌, refl, sym, subst, ◌∙◌, ℕ, Bool, true, false, ◌||◌, List, [], Option, Some, None, arith, ◌⊎◌, inl, inr}
 use Rattle.std.specs.List.{Contains}
 use Rattle.std.specs.Option.{option_map_or}
-use Rattle.pz_syntax.specs.declared.clusters.Instance.{Instance}
-use Rattle.pz_syntax.specs.Classes.{DeclTree, data_class, process_class, cluster_class, system, ModelTree}
+use Rattle.pz_classes.specs.pz_syntax.declared.clusters.Instance.{Instance}
+use Rattle.pz_classes.specs.pz_syntax.Classes.{DeclTree, data_class, process_class, cluster_class, system, ModelTree}
 use Rattle.pz_check_violations.specs.Order.{violation}
-use Rattle.pz_classes_code.specs.ReservedNames.{is_primitive, is_unsupported}
-use Rattle.pz_classes.specs.Numbers.{declaration, class}
-use Rattle.pz_classes.specs.Kinds.{is_process, is_cluster}
-use Rattle.pz_classes.specs.Instances.{instances, instance_class}
-use Rattle.pz_classes.specs.InstanceRules.{Holds, directly, through, holds_itself}
-use Rattle.pz_classes.specs.SizeRules.{HasNoSize, by_holding}
+use Rattle.pz_classes.specs.pz_classes_code.ReservedNames.{is_primitive, is_unsupported}
+use Rattle.pz_classes.specs.pz_classes_rules.Numbers.{declaration, class}
+use Rattle.pz_classes.specs.pz_classes_rules.Kinds.{is_process, is_cluster}
+use Rattle.pz_classes.specs.pz_classes_rules.Instances.{instances, instance_class}
+use Rattle.pz_classes.specs.pz_classes_rules.InstanceRules.{Holds, directly, through, holds_itself}
+use Rattle.pz_classes.specs.pz_classes_rules.SizeRules.{HasNoSize, by_holding}
 use Rattle.pz_check_size.specs.declared.nodes.Node.{Node}
 use Rattle.pz_check_size.specs.devices.Nodes.{nodes}
 use Rattle.pz_check_size.specs.devices.Counting.{NoneHoldsItself}

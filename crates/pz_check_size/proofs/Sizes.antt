@@ -4,17 +4,17 @@ use Rattle.std.specs.List.{Contains, flat_map}
 use Rattle.std.specs.Option.{option_map_or}
 use Rattle.std.proofs.lemmas.Bool.Decides.{nat_tests}
 use Rattle.std.proofs.lemmas.List.{length-map}
-use Rattle.pz_syntax.specs.declared.clusters.Instance.{Instance}
-use Rattle.pz_syntax.specs.declared.clusters.SystemDecl.{SystemDecl}
-use Rattle.pz_syntax.specs.Classes.{DeclTree, data_class, process_class, cluster_class, system, ModelTree}
+use Rattle.pz_classes.specs.pz_syntax.declared.clusters.Instance.{Instance}
+use Rattle.pz_classes.specs.pz_syntax.declared.clusters.SystemDecl.{SystemDecl}
+use Rattle.pz_classes.specs.pz_syntax.Classes.{DeclTree, data_class, process_class, cluster_class, system, ModelTree}
 use Rattle.pz_check_violations.specs.declared.violation.Violation.{Violation}
 use Rattle.pz_check_violations.specs.Order.{violation}
 use Rattle.pz_check_violations.specs.Least.{LeastOf, least_from, Member}
 use Rattle.pz_check_violations.proofs.Members.{member_left, member_right, member_cases, listed_is, is_listed}
 use Rattle.pz_check_violations.proofs.Leasts as leasts
-use Rattle.pz_classes.specs.Instances.{instances, channels, instance_class}
-use Rattle.pz_classes.specs.SizeRules as size
-use Rattle.pz_classes.specs.SizeRules.{system_of, systems, all_of, one_of, expanded, system_size, is_too_large, HasNoSize, BreaksC19, too_large}
+use Rattle.pz_classes.specs.pz_classes_rules.Instances.{instances, channels, instance_class}
+use Rattle.pz_classes.specs.pz_classes_rules.SizeRules as size
+use Rattle.pz_classes.specs.pz_classes_rules.SizeRules.{system_of, systems, all_of, one_of, expanded, system_size, is_too_large, HasNoSize, BreaksC19, too_large}
 use Rattle.pz_check_size.specs.declared.nodes.Node.{Node}
 use Rattle.pz_check_size.specs.declared.totals.Totals.{Totals}
 use Rattle.pz_check_size.specs.devices.Nodes.{all_held, node_of, nodes}

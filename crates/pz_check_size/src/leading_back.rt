@@ -11,7 +11,7 @@ ghost use Rattle.pz_check_size.specs.devices.LeadingBack.{LeadsBack};
 use crate::nodes::{Held, Node};
 use pz_check_components::components;
 use pz_check_violations::{Violation, lesser};
-use pz_items::Items;
+use pz_classes::pz_items::Items;
 use std::alloc::{AllocError, Global};
 
 const HOLDS_ITSELF: u8 = 15;

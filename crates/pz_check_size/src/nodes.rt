@@ -1,14 +1,14 @@
 // The classes of a model as far as instances stand in them.
 
 ghost use Rattle.std.specs.Prelude.{◌≡◌, ◌++◌, IfOk, OnOk};
-ghost use Rattle.pz_syntax.specs.ClassView.{decl_view, model_view};
+ghost use Rattle.pz_classes.specs.pz_syntax.ClassView.{decl_view, model_view};
 ghost use Rattle.pz_classes.specs.devices.Rows.{AreClasses};
 ghost use Rattle.pz_check_size.specs.devices.Nodes as spec;
 
 use crate::totals::Totals;
+use pz_classes::pz_items::Items;
+use pz_classes::pz_syntax::{Decl, Instance, Model, Pos};
 use pz_classes::{Classes, channels_of, class_of_instance, instances_of, is_cluster};
-use pz_items::Items;
-use pz_syntax::{Decl, Instance, Model, Pos};
 use std::alloc::{AllocError, Global};
 
 /// An instance that stands in a class: the number of its own class, and the place where that is

@@ -1,10 +1,10 @@
 // The rule C19: the expanded system is not too large.
 
 ghost use Rattle.std.specs.Prelude.{◌≡◌, None, IfOk};
-ghost use Rattle.pz_syntax.specs.ClassView.{model_view};
+ghost use Rattle.pz_classes.specs.pz_syntax.ClassView.{model_view};
 ghost use Rattle.pz_check_violations.specs.Least as least;
 ghost use Rattle.pz_check_violations.specs.Least.{LeastOf};
-ghost use Rattle.pz_classes.specs.SizeRules.{BreaksC19, HasNoSize};
+ghost use Rattle.pz_classes.specs.pz_classes_rules.SizeRules.{BreaksC19, HasNoSize};
 ghost use Rattle.pz_classes.specs.devices.Rows.{AreClasses};
 ghost use Rattle.pz_check_size.specs.devices.Oversized as spec;
 
@@ -13,7 +13,7 @@ use crate::nodes::nodes_of;
 use crate::totals::{Totals, total_in};
 use pz_check_violations::{Violation, lesser};
 use pz_classes::Classes;
-use pz_syntax::{Decl, Model};
+use pz_classes::pz_syntax::{Decl, Model};
 use std::alloc::{AllocError, Global};
 
 const TOO_LARGE: u8 = 19;

@@ -5,7 +5,7 @@ ghost use Rattle.std.specs.Prelude.{◌≡◌, length};
 ghost use Rattle.pz_check_size.specs.devices.Levels as spec;
 
 use crate::nodes::Node;
-use pz_syntax::Channel;
+use pz_classes::pz_syntax::Channel;
 
 /// One more than the most processes, or the most clusters, that a system may have.
 const MANY: u32 = 10_001;

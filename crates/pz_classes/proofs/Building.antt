@@ -1,19 +1,19 @@
 -- What the table of a model's classes is built from, as the code sees it.
 use Rattle.std.proofs.Common.{◌≡◌, sym, ap, ◌∙◌, subst, ℕ, ◌+◌, ◌↔◌, Bool, true, List, Option, Some, length, slice_get, arith}
-use Rattle.pz_syntax.specs.declared.clusters.Model.{Model}
-use Rattle.pz_syntax.specs.ClassView.{model_view}
+use Rattle.pz_classes_code.specs.pz_syntax.declared.clusters.Model.{Model}
+use Rattle.pz_classes_code.specs.pz_syntax.ClassView.{model_view}
 use Rattle.pz_check_violations.specs.declared.violation.Violation.{Violation}
 use Rattle.pz_classes_lineage.specs.declared.visit.Visit.{Visit}
 use Rattle.pz_classes_lineage.specs.Parents.{parent_in, AreWithin}
 use Rattle.pz_classes_lineage.specs.Reached.{GoesRound}
 use Rattle.pz_classes_lineage.specs.Preorder.{IsPreorder}
-use Rattle.pz_classes.specs.Ancestors.{parent}
-use Rattle.pz_classes.specs.Violations.{Violates}
-use Rattle.pz_classes.specs.devices.Rounds.{AreRound}
-use Rattle.pz_classes.specs.Preorder.{IsPreorderOf}
-use Rattle.pz_classes.proofs.Belongs.{parent_within}
+use Rattle.pz_classes_rules.specs.Ancestors.{parent}
+use Rattle.pz_classes_rules.specs.Violations.{Violates}
+use Rattle.pz_classes_rules.specs.devices.Rounds.{AreRound}
+use Rattle.pz_classes_rules.specs.Preorder.{IsPreorderOf}
+use Rattle.pz_classes_rules.proofs.Within.{parent_within}
 use Rattle.pz_classes.proofs.Filling.{counted_with}
-use Rattle.pz_classes.proofs.Rounds.{parents_agree, nobody_goes_round}
+use Rattle.pz_classes_rules.proofs.Rounds.{parents_agree, nobody_goes_round}
 use Rattle.pz_classes.proofs.Walked.{preorder_of}
 
 -- the list of parents, and the same list as it is handed on

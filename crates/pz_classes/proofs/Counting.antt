@@ -1,15 +1,16 @@
 -- Classes, their rows and their bodies, counted one class further.
 use Rattle.std.proofs.Common.{◌≡◌, refl, sym, ap, ◌∙◌, ℕ, suc, ◌+◌, ◌<◌, List, [], ◌∷◌, ◌++◌, append_assoc, map, length, take, drop, drop-cons, Some, slice_get, get_or, zero, ◌≤◌, arith}
 use Rattle.std.proofs.lemmas.List.{length-map, map-append, take_more, take_all}
-use Rattle.pz_syntax.specs.declared.clusters.Decl.{Decl}
-use Rattle.pz_syntax.specs.Classes.{DeclTree, ModelTree}
-use Rattle.pz_syntax.specs.ClassView.{decl_view}
+use Rattle.pz_classes_code.specs.pz_syntax.declared.clusters.Decl.{Decl}
+use Rattle.pz_classes_code.specs.pz_syntax.Classes.{DeclTree, ModelTree}
+use Rattle.pz_classes_code.specs.pz_syntax.ClassView.{decl_view}
 use Rattle.pz_classes.specs.declared.entry.Entry.{Entry}
-use Rattle.pz_classes.specs.Ancestors.{ancestors}
+use Rattle.pz_classes_rules.specs.Ancestors.{ancestors}
 use Rattle.pz_classes.specs.devices.Inherited.{HasMembers}
-use Rattle.pz_classes.specs.Bodies.{BodyTree, own_bodies, bodies_from}
+use Rattle.pz_classes_rules.specs.Bodies.{BodyTree, own_bodies, bodies_from}
 use Rattle.pz_classes.specs.devices.Rows.{Row, row, rows, row_view}
 use Rattle.pz_classes.proofs.Belongs.{entries_length}
+use Rattle.pz_classes_rules.proofs.Further.{further}
 use Rattle.pz_classes.proofs.RowLookups.{entry_is, rows_length, row_at}
 
 -- the rows of one class more
@@ -17,12 +18,6 @@ pub rows_step : (m : ModelTree) (es : List Entry) (e : Entry) (c : ℕ) → c < 
 rows_step m es e c below is before =
     let within : c < length (rows m) = (let count = rows_length m in omega arith) in
     map-append row_view es (e ∷ []) ∙ ap (λ (rs : List Row). rs ++ row_view e ∷ []) before ∙ ap (λ (r : Row). take c (rows m) ++ r ∷ []) (is ∙ sym (row_at m c below)) ∙ sym (take_more (rows m) c (row m c) within)
-
-pub further : {X : Type 0} (xs : List X) (n : ℕ) (x : X) (rest : List X) → drop n xs ≡ x ∷ rest → (slice_get xs n ≡ Some x) × (drop (suc n) xs ≡ rest)
-further [] zero x rest is = cc
-further [] (suc n) x rest is = cc
-further (y ∷ ys) zero x rest is = (cc, cc)
-further (y ∷ ys) (suc n) x rest is = further ys n x rest is
 
 -- what is left of a list, one element further
 pub one_further : {X : Type 0} (xs : List X) (n : ℕ) (x : X) (rest : List X) → drop n xs ≡ x ∷ rest → (slice_get xs n ≡ Some x) × (drop (n + 1) xs ≡ rest)

@@ -1,18 +1,18 @@
 -- What is kept of a class is its row.
 use Rattle.std.proofs.Common.{◌≡◌, ℕ, Option}
 use Rattle.std.specs.Option.{option_map}
-use Rattle.pz_syntax.specs.Classes.{ModelTree}
+use Rattle.pz_classes_code.specs.pz_syntax.Classes.{ModelTree}
 use Rattle.pz_classes_code.specs.declared.step.Step.{Step}
 use Rattle.pz_classes_code.specs.StepView as step
 use Rattle.pz_classes.specs.declared.members.Members.{Members}
 use Rattle.pz_classes.specs.declared.method_index.Methods.{Methods}
-use Rattle.pz_classes.specs.Ancestors.{parent, ancestors}
+use Rattle.pz_classes_rules.specs.Ancestors.{parent, ancestors}
 use Rattle.pz_classes.specs.devices.Inherited.{HasMembers, AreFew}
-use Rattle.pz_classes.specs.Methods.{Signature, own_method}
+use Rattle.pz_classes_rules.specs.Methods.{Signature, own_method}
 use Rattle.pz_classes.specs.devices.MethodIn.{method_in, HasMethodsOf}
-use Rattle.pz_classes.specs.Starts.{own_call}
+use Rattle.pz_classes_rules.specs.Starts.{own_call}
 use Rattle.pz_classes.specs.devices.Rows.{row, row_view}
-use Rattle.pz_classes.proofs.Agreeing.{agreeing}
+use Rattle.pz_classes_rules.proofs.Agreeing.{agreeing}
 
 pub row_is : (m : ModelTree) (c : ℕ) (up : Option ℕ) (members : Members) (start : Option Step) (methods : Methods) → up ≡ parent m c
     → HasMembers m (ancestors m c) members → option_map step.view start ≡ own_call m c → HasMethodsOf m c methods

@@ -4,16 +4,16 @@ use Rattle.std.specs.List.{Contains}
 use Rattle.std.specs.Option.{option_map_or}
 use Rattle.std.proofs.lemmas.List.{length-append, take-append-le, take_all, map-append}
 use Rattle.std.proofs.lemmas.List.Elements.{All-append, All-weaker, All-nil, All-cons, Contains-append_left}
-use Rattle.pz_syntax.specs.Classes.{ModelTree}
+use Rattle.pz_classes_code.specs.pz_syntax.Classes.{ModelTree}
 use Rattle.pz_classes_lineage.specs.Reached.{GoesRound}
-use Rattle.pz_classes.specs.Ancestors.{parent, ancestors}
+use Rattle.pz_classes_rules.specs.Ancestors.{parent, ancestors}
 use Rattle.pz_classes.specs.declared.members.Members.{Members}
 use Rattle.pz_classes.specs.declared.members.Lengths.{Lengths}
 use Rattle.pz_classes.specs.declared.line.End.{End}
 use Rattle.pz_classes.specs.devices.Inherited.{HasMembers, AddsAt, none_yet}
 use Rattle.pz_classes.specs.devices.Fronts.{front, lengths, total, behind, AreWithin, IsEnd, Inherits, IsLineTo, classes_of}
-use Rattle.pz_classes.proofs.Acyclic.{above}
-use Rattle.pz_classes.proofs.Heirs.{extends_within}
+use Rattle.pz_classes_rules.proofs.Acyclic.{above}
+use Rattle.pz_classes_rules.proofs.Heirs.{extends_within}
 use Rattle.pz_classes.proofs.Inheriting.{grows}
 
 -- a front of a list stays as it is where more comes behind

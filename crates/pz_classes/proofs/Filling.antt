@@ -6,13 +6,13 @@ use Rattle.std.specs.Option.{IsSome, option_map, option_map_or, option_and_then,
 use Rattle.std.proofs.lemmas.List.{map_more, length-map, length-set, get_or-map, get_or_default}
 use Rattle.std.proofs.lemmas.List.Elements.{All-from_get_or, Contains-append_cases, Contains-push_cases}
 use Rattle.std.proofs.lemmas.Option.{slice_get-map, slice_get_read, slice_get_past, slice_get_cases}
-use Rattle.pz_syntax.specs.declared.clusters.Model.{Model}
-use Rattle.pz_syntax.specs.Classes.{ModelTree}
-use Rattle.pz_syntax.specs.ClassView.{decl_view, model_view}
+use Rattle.pz_classes_code.specs.pz_syntax.declared.clusters.Model.{Model}
+use Rattle.pz_classes_code.specs.pz_syntax.Classes.{ModelTree}
+use Rattle.pz_classes_code.specs.pz_syntax.ClassView.{decl_view, model_view}
 use Rattle.pz_classes_lineage.specs.declared.visit.Visit.{Visit}
 use Rattle.pz_classes_lineage.specs.Parents.{parent_in}
 use Rattle.pz_classes_lineage.specs.Preorder.{visited, IsPreorder}
-use Rattle.pz_classes.specs.Ancestors.{parent, ancestors}
+use Rattle.pz_classes_rules.specs.Ancestors.{parent, ancestors}
 use Rattle.pz_classes.specs.declared.members.Members.{Members}
 use Rattle.pz_classes.specs.declared.line.End.{End}
 use Rattle.pz_classes.specs.devices.Inherited.{HasMembers, AreMembers, none_yet}

@@ -3,9 +3,9 @@ use Rattle.std.proofs.Common.{◌≡◌, refl, sym, ap, subst, ◌∙◌, ℕ, z
 use Rattle.std.specs.List.{HoldsAt}
 use Rattle.std.specs.Option.{option_map, option_copied, MatchOption, IfSome}
 use Rattle.std.proofs.lemmas.Option.{slice_get_past, slice_get-get_or, slice_get-map}
-use Rattle.pz_syntax.specs.declared.clusters.Decl.{Decl}
-use Rattle.pz_syntax.specs.ClassView.{decl_view}
-use Rattle.pz_classes.specs.Numbers.{declaration}
+use Rattle.pz_classes_code.specs.pz_syntax.declared.clusters.Decl.{Decl}
+use Rattle.pz_classes_code.specs.pz_syntax.ClassView.{decl_view}
+use Rattle.pz_classes_rules.specs.Numbers.{declaration}
 
 pub got : {X : Type 0} (xs : List X) (i : ℕ) (r : Option (Bor X)) → MatchOption r (length xs ≤ i) (λ x. (i < length xs) × HoldsAt {X = X} (λ y. x.now ≡ y) xs i)
     → IfSome r (λ x. x.now ≡ get_or xs i x.now) → option_copied r ≡ slice_get xs i

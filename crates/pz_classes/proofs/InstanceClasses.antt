@@ -1,13 +1,13 @@
 -- The class of an instance, case by case.
 use Rattle.std.proofs.Common.{◌≡◌, refl, ℕ, Bool, true, false, ◌||◌, List, Option, Some, None}
 use Rattle.std.specs.Option.{option_map, option_map_or}
-use Rattle.pz_syntax.specs.Classes.{ModelTree}
-use Rattle.pz_value.specs.declared.value.ClassId.{ClassId}
+use Rattle.pz_classes_code.specs.pz_syntax.Classes.{ModelTree}
+use Rattle.pz_classes_code.specs.pz_value.declared.value.ClassId.{ClassId}
 use Rattle.pz_classes_code.specs.ReservedNames.{is_primitive, is_unsupported}
-use Rattle.pz_classes.specs.Numbers.{declaration, class}
-use Rattle.pz_classes.specs.Kinds.{is_process, is_cluster}
-use Rattle.pz_classes.specs.Instances.{instance_class}
-use Rattle.pz_classes.specs.Tables.{class_id}
+use Rattle.pz_classes_rules.specs.Numbers.{declaration, class}
+use Rattle.pz_classes_rules.specs.Kinds.{is_process, is_cluster}
+use Rattle.pz_classes_rules.specs.Instances.{instance_class}
+use Rattle.pz_classes_rules.specs.ClassNames.{class_id}
 
 pub id_of_none : (o : Option ℕ) → None ≡ option_map class_id o → o ≡ None
 id_of_none None is = refl

@@ -1,11 +1,11 @@
 -- The least violation, class by class.
 use Rattle.std.proofs.Common.{◌≡◌, sym, ap, ◌∙◌, ℕ, suc, ◌<◌, List, ◌∷◌, ◌++◌, map, drop, length, get_or, drop-cons, Option}
-use Rattle.pz_syntax.specs.declared.clusters.Decl.{Decl}
-use Rattle.pz_syntax.specs.Classes.{ModelTree}
-use Rattle.pz_syntax.specs.ClassView.{decl_view}
+use Rattle.pz_classes_code.specs.pz_syntax.declared.clusters.Decl.{Decl}
+use Rattle.pz_classes_code.specs.pz_syntax.Classes.{ModelTree}
+use Rattle.pz_classes_code.specs.pz_syntax.ClassView.{decl_view}
 use Rattle.pz_check_violations.specs.declared.violation.Violation.{Violation}
 use Rattle.pz_check_violations.specs.Least.{least_from}
-use Rattle.pz_classes.specs.devices.ViolationList.{of_class, among}
+use Rattle.pz_classes_rules.specs.devices.ViolationList.{of_class, among}
 use Rattle.pz_check_violations.proofs.Leasts.{least_from_append}
 
 -- one class further

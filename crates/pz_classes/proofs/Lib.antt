@@ -1,40 +1,21 @@
 mod Leasts
 mod Lines
 mod Entries
-mod Found
 mod Gets
 mod RowLookups
-mod Rows
-mod Worked
-mod Agreeing
 mod Scopes
 mod Belongs
 mod Counting
 mod Overloads
 mod Numbered
-mod Reaching
 mod Merely
 mod InstanceClasses
-pub mod Acyclic
 mod Walked
-pub mod Rounds
 mod Inheriting
 mod Filling
 mod Extending
 mod Building
-pub mod Turned
-pub mod Elements
-pub mod Apart
-mod SoundInstances
-mod SoundEnds
-mod SoundSystem
-mod Heirs
-mod SoundClasses
-mod MethodBodies
-mod Mentioned
-mod SoundBodies
-mod WorkedBodies
-mod Weights
-pub mod FewMarks
-mod SoundNumbers
+mod FewMembers
 mod StartCalls
+pub use Rattle.pz_classes_rules.proofs as pz_classes_rules_proofs
+pub use Rattle.pz_check_violations.proofs as pz_check_violations_proofs

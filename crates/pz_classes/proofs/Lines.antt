@@ -1,10 +1,10 @@
 -- The parents of classes, and the lines that they make.
 use Rattle.std.proofs.Common.{◌≡◌, refl, ap, ℕ, zero, suc, List, [], ◌∷◌, map, Option, Some, None, slice_get, sym, ◌∙◌}
 use Rattle.std.specs.Option.{option_map_or, option_and_then}
-use Rattle.pz_syntax.specs.declared.clusters.Decl.{Decl}
-use Rattle.pz_syntax.specs.Classes.{DeclTree, ModelTree}
-use Rattle.pz_syntax.specs.ClassView.{decl_view}
-use Rattle.pz_classes.specs.Ancestors.{followed, parent, parent_of}
+use Rattle.pz_classes_code.specs.pz_syntax.declared.clusters.Decl.{Decl}
+use Rattle.pz_classes_code.specs.pz_syntax.Classes.{DeclTree, ModelTree}
+use Rattle.pz_classes_code.specs.pz_syntax.ClassView.{decl_view}
+use Rattle.pz_classes_rules.specs.Ancestors.{followed, parent, parent_of}
 use Rattle.pz_classes_lineage.specs.Parents.{parent_in}
 
 joined : (f : DeclTree → Option ℕ) (ds : List Decl) (i : ℕ) → option_and_then (λ p. p) (slice_get (map (λ d. f (decl_view d)) ds) i) ≡ option_and_then f (slice_get (map decl_view ds) i)

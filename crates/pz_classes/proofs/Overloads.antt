@@ -6,12 +6,12 @@ use Rattle.std.specs.Map.{lookup, KeepsOthers, IsKeyTest, AreApart}
 use Rattle.std.proofs.lemmas.Bool.{eqb-true}
 use Rattle.std.proofs.lemmas.Slice.Eq.{bytes_eq-Decides}
 use Rattle.indexmap.specs.IndexMap.{IndexMap, get_by, UpdatesBy}
-use Rattle.pz_classes.specs.declared.method_id.Counts.{Counts}
-use Rattle.pz_classes.specs.declared.method_id.Counts.TheVariants.{Data, Process}
-use Rattle.pz_classes.specs.declared.method_id.MethodId.{MethodId}
+use Rattle.pz_classes_rules.specs.declared.method_id.Counts.{Counts}
+use Rattle.pz_classes_rules.specs.declared.method_id.Counts.TheVariants.{Data, Process}
+use Rattle.pz_classes_rules.specs.declared.method_id.MethodId.{MethodId}
 use Rattle.pz_classes.specs.declared.method_index.Overload.{Overload}
 use Rattle.pz_classes.specs.declared.method_index.Methods.{Methods}
-use Rattle.pz_classes.specs.Methods.{Signature, same_counts, same_signature}
+use Rattle.pz_classes_rules.specs.Methods.{Signature, same_counts, same_signature}
 use Rattle.pz_classes.specs.devices.MethodIn.{first_with_counts, overloads_in, method_in}
 
 abbrev Key : Type 0

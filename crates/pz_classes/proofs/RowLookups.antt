@@ -2,11 +2,11 @@
 use Rattle.std.proofs.Common.{◌≡◌, refl, sym, ap, subst, ◌∙◌, ℕ, zero, suc, ◌+◌, ◌<◌, ◌≤◌, ◌⊎◌, inl, inr, List, [], ◌∷◌, map, length, Option, Some, None, slice_get, get_or, arith}
 use Rattle.std.specs.Option.{option_map, option_and_then}
 use Rattle.std.proofs.lemmas.Option.{slice_get-map, slice_get_read, slice_get_cases, get_or_from_slice_get}
-use Rattle.pz_syntax.specs.Classes.{DeclTree, ModelTree}
+use Rattle.pz_classes_code.specs.pz_syntax.Classes.{DeclTree, ModelTree}
 use Rattle.pz_classes.specs.declared.entry.Entry.{Entry}
-use Rattle.pz_classes.specs.Ancestors.{parent, parent_of, followed}
-use Rattle.pz_classes.specs.Methods.{Signature, own_method, nearest, method_with}
-use Rattle.pz_classes.specs.Starts.{own_call, init}
+use Rattle.pz_classes_rules.specs.Ancestors.{parent, parent_of, followed}
+use Rattle.pz_classes_rules.specs.Methods.{Signature, own_method, nearest, method_with}
+use Rattle.pz_classes_rules.specs.Starts.{own_call, init}
 use Rattle.pz_classes.specs.devices.Rows.{Row, row, rows_from, rows, row_view}
 use Rattle.pz_classes.specs.devices.Found.{up_in, own_in, found_in, start_in, start_found}
 use Rattle.pz_classes.proofs.Lines.{line_same}

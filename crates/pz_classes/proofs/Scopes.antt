@@ -2,25 +2,25 @@
 use Rattle.std.proofs.Common.{◌≡◌, refl, ap, sym, ◌∙◌, ℕ, List, length, Option, Some, []}
 use Rattle.std.specs.Option.{option_map, option_and_then}
 use Rattle.std.proofs.lemmas.List.{length-map}
-use Rattle.pz_syntax.specs.declared.names.Id.{Id}
-use Rattle.pz_syntax.specs.Classes.{ProcessMethodTree, StartTree, ModelTree}
-use Rattle.pz_syntax.specs.Statements.{Statements}
-use Rattle.pz_value.specs.declared.value.ClassId.{ClassId}
+use Rattle.pz_classes_code.specs.pz_syntax.declared.names.Id.{Id}
+use Rattle.pz_classes_code.specs.pz_syntax.Classes.{ProcessMethodTree, StartTree, ModelTree}
+use Rattle.pz_classes_code.specs.pz_syntax.Statements.{Statements}
+use Rattle.pz_classes_code.specs.pz_value.declared.value.ClassId.{ClassId}
 use Rattle.pz_classes_code.specs.declared.numbering.Numbering.{Numbering}
 use Rattle.pz_classes_code.specs.NumberIn.{number_in}
 use Rattle.pz_classes_code.specs.Places.{place_in}
 use Rattle.pz_classes_code.specs.declared.slot.Slot.{Slot}
 use Rattle.pz_classes_code.specs.Resolution.{Scope, resolved_all, resolved_statements}
-use Rattle.pz_classes.specs.Numbers.{declaration}
-use Rattle.pz_classes.specs.Members as members
-use Rattle.pz_classes.specs.Members.{spelled}
-use Rattle.pz_classes.specs.Starts.{own_start, start_call, own_call}
-use Rattle.pz_syntax.specs.Statements.{call}
+use Rattle.pz_classes_rules.specs.Numbers.{declaration}
+use Rattle.pz_classes_rules.specs.Members as members
+use Rattle.pz_classes_rules.specs.Members.{spelled}
+use Rattle.pz_classes_rules.specs.Starts.{own_start, start_call, own_call}
+use Rattle.pz_classes_code.specs.pz_syntax.Statements.{call}
 use Rattle.pz_classes_code.specs.StepView.{Tree}
-use Rattle.pz_classes.specs.Bodies.{scope_of, process_scope, process_locals, process_body, process_body_in}
+use Rattle.pz_classes_rules.specs.Bodies.{scope_of, process_scope, process_locals, process_body, process_body_in}
 use Rattle.pz_classes.specs.devices.Surrounding.{scope_around}
 use Rattle.pz_classes.specs.declared.surroundings.Surroundings.{Surroundings}
-use Rattle.pz_classes.proofs.Agreeing.{agreeing}
+use Rattle.pz_classes_rules.proofs.Agreeing.{agreeing}
 
 abbrev Table : Type 0
 Table = List ℕ → Option ℕ

@@ -1,8 +1,8 @@
 -- The calls with which processes start, as statements.
 use Rattle.std.proofs.Common.{◌≡◌, List, [], ap, ◌∙◌, rules}
-use Rattle.pz_syntax.specs.declared.tokens.Pos.{Pos}
-use Rattle.pz_syntax.specs.declared.names.Id.{Id}
-use Rattle.pz_syntax.specs.Statements.{call}
+use Rattle.pz_classes_code.specs.pz_syntax.declared.tokens.Pos.{Pos}
+use Rattle.pz_classes_code.specs.pz_syntax.declared.names.Id.{Id}
+use Rattle.pz_classes_code.specs.pz_syntax.Statements.{call}
 use Rattle.pz_classes_code.specs.declared.code.Code.{Code}
 use Rattle.pz_classes_code.specs.declared.step.StepForm.{StepForm}
 use Rattle.pz_classes_code.specs.declared.step.StepForm.TheVariants as form

@@ -3,13 +3,13 @@ use Rattle.std.proofs.Common.{◌≡◌, refl, sym, ap, ◌∙◌, subst, ℕ, z
 use Rattle.std.specs.List.{Contains}
 use Rattle.std.specs.Option.{option_map_or}
 use Rattle.std.proofs.lemmas.List.Elements.{Contains-append_left, Contains-push}
-use Rattle.pz_syntax.specs.Classes.{ModelTree}
+use Rattle.pz_classes_code.specs.pz_syntax.Classes.{ModelTree}
 use Rattle.pz_classes_lineage.specs.declared.visit.Visit.{Visit}
 use Rattle.pz_classes_lineage.specs.Reached.{GoesRound}
 use Rattle.pz_classes_lineage.specs.Preorder.{innermost, outermost, Visits, visited, IsPreorder}
-use Rattle.pz_classes.specs.Ancestors.{parent, ancestors}
-use Rattle.pz_classes.specs.Preorder.{Opens, IsPreorderOf}
-use Rattle.pz_classes.proofs.Acyclic.{above}
+use Rattle.pz_classes_rules.specs.Ancestors.{parent, ancestors}
+use Rattle.pz_classes_rules.specs.Preorder.{Opens, IsPreorderOf}
+use Rattle.pz_classes_rules.proofs.Acyclic.{above}
 
 first_of : (x : ℕ) (xs : List ℕ) → Contains (x ∷ xs) x
 first_of x xs = (0, omega arith, refl)

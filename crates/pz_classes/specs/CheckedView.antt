@@ -1,6 +1,6 @@
 -- What a checked model holds.
-use Rattle.pz_syntax.specs.Classes.{ModelTree}
-use Rattle.pz_syntax.specs.ClassView.{model_view}
+use Rattle.pz_classes_code.specs.pz_syntax.Classes.{ModelTree}
+use Rattle.pz_classes_code.specs.pz_syntax.ClassView.{model_view}
 use Rattle.pz_classes.specs.declared.classes.Classes.{Classes}
 use Rattle.pz_classes.specs.declared.checked.Checked.{Checked}
 

@@ -1,15 +1,15 @@
 // The numbers of classes by their names, and who extends whom.
 
 ghost use Rattle.std.specs.Prelude.{◌≡◌, ◌<◌, ◌+◌, ◌^◌, List, ℕ, length, IfOk};
-ghost use Rattle.pz_syntax.specs.ClassView.{decl_view, model_view};
-ghost use Rattle.pz_classes.specs.Numbers.{class};
-ghost use Rattle.pz_classes.specs.Ancestors.{parent, parent_of};
+ghost use Rattle.pz_classes_code.specs.pz_syntax.ClassView.{decl_view, model_view};
+ghost use Rattle.pz_classes_rules.specs.Numbers.{class};
+ghost use Rattle.pz_classes_rules.specs.Ancestors.{parent, parent_of};
 ghost use Rattle.pz_classes_code.specs.NumberIn.{number_in};
 ghost use Rattle.pz_classes_lineage.specs.Parents.{parent_in};
 
 use crate::declarations::{declared_name, extended};
+use pz_classes_code::pz_syntax::{Decl, Model};
 use pz_classes_code::{Numbering, is_primitive, is_unsupported};
-use pz_syntax::{Decl, Model};
 use std::alloc::{AllocError, Global};
 
 /// The number of each class by its name, from 1 in the order of the text; the first declaration of

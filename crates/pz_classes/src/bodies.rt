@@ -1,16 +1,16 @@
 // The bodies of methods, with slots and numbers in place of names. The only error is want of memory.
 
 ghost use Rattle.std.specs.Prelude.{◌≡◌, ◌<◌, ◌+◌, ◌^◌, ◌++◌, ℕ, List, length, map, All, IfOk, OnOk};
-ghost use Rattle.pz_syntax.specs.Classes.{ModelTree};
-ghost use Rattle.pz_syntax.specs.ClassView.{decl_view, model_view, data_method_view, process_method_view};
+ghost use Rattle.pz_classes_code.specs.pz_syntax.Classes.{ModelTree};
+ghost use Rattle.pz_classes_code.specs.pz_syntax.ClassView.{decl_view, model_view, data_method_view, process_method_view};
 ghost use Rattle.pz_classes_code.specs.NumberIn.{number_in};
-ghost use Rattle.pz_classes.specs.Numbers.{class};
-ghost use Rattle.pz_classes.specs.Ancestors.{ancestors};
-ghost use Rattle.pz_syntax.specs.ModelText.{decl_text, HasFewMarks};
-ghost use Rattle.pz_classes.specs.Members.{spelled};
+ghost use Rattle.pz_classes_rules.specs.Numbers.{class};
+ghost use Rattle.pz_classes_rules.specs.Ancestors.{ancestors};
+ghost use Rattle.pz_classes_code.specs.pz_syntax.ModelText.{decl_text, HasFewMarks};
+ghost use Rattle.pz_classes_rules.specs.Members.{spelled};
 ghost use Rattle.pz_classes.specs.devices.Inherited.{HasMembers};
-ghost use Rattle.pz_classes.specs.Bodies as spec;
-ghost use Rattle.pz_classes.specs.BodyView.{body_view};
+ghost use Rattle.pz_classes_rules.specs.Bodies as spec;
+ghost use Rattle.pz_classes_rules.specs.BodyView.{body_view};
 ghost use Rattle.pz_classes.specs.devices.Surrounding.{scope_around, Numbers};
 ghost use Rattle.pz_classes.specs.devices.Rows.{row_view, rows};
 
@@ -19,9 +19,9 @@ use crate::entry::Entry;
 use crate::front::Front;
 use crate::members::{push_groups, push_section};
 use crate::surroundings::{Surroundings, count};
+use pz_classes_code::pz_items::Items;
+use pz_classes_code::pz_syntax::{DataMethod, Decl, Model, Name, ProcessMethod};
 use pz_classes_code::{Numbering, Scope, places_of, resolve_list, resolve_statements};
-use pz_items::Items;
-use pz_syntax::{DataMethod, Decl, Model, Name, ProcessMethod};
 use std::alloc::{AllocError, Global};
 
 /// The names of inputs and locals.

@@ -1,15 +1,15 @@
 // A sound model.
 
 ghost use Rattle.std.specs.Prelude.{◌≡◌};
-ghost use Rattle.pz_syntax.specs.ClassView.{model_view};
-ghost use Rattle.pz_syntax.specs.ModelText.{HasFewMarks};
+ghost use Rattle.pz_classes_code.specs.pz_syntax.ClassView.{model_view};
+ghost use Rattle.pz_classes_code.specs.pz_syntax.ModelText.{HasFewMarks};
 ghost use Rattle.pz_check_violations.specs.declared.violation.Violation.{Violation};
-ghost use Rattle.pz_classes.specs.Violations.{Violates};
-ghost use Rattle.pz_classes.specs.Soundness.{Breaks};
+ghost use Rattle.pz_classes_rules.specs.Violations.{Violates};
+ghost use Rattle.pz_classes_rules.specs.Soundness.{Breaks};
 ghost use Rattle.pz_classes.specs.devices.Rows.{AreClasses};
 
 use crate::Classes;
-use pz_syntax::Model;
+use pz_classes_code::pz_syntax::Model;
 
 /// A model that violates none of the rules C1 to C22, and its classes. Its text has fewer than
 /// 2^32 - 1 marks.
@@ -33,7 +33,7 @@ impl Drop for Checked {
 
 impl Checked {
     ghost use Rattle.pz_classes.specs.CheckedView.{checked_model, checked_classes};
-    ghost use Rattle.pz_classes.specs.Soundness.{IsSound};
+    ghost use Rattle.pz_classes_rules.specs.Soundness.{IsSound};
 
     /// The model with its classes. Takes no memory.
     pub fn new(model: Model, classes: Classes) -> Checked

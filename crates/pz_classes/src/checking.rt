@@ -1,18 +1,18 @@
 // The rules C1 to C3, and the least violation of them.
 
 ghost use Rattle.std.specs.Prelude.{◌≡◌, ◌<◌, ◌+◌, ◌^◌, List, ℕ, None, length};
-ghost use Rattle.pz_syntax.specs.ClassView.{decl_view, model_view};
-ghost use Rattle.pz_classes.specs.Numbers.{class};
+ghost use Rattle.pz_classes_code.specs.pz_syntax.ClassView.{decl_view, model_view};
+ghost use Rattle.pz_classes_rules.specs.Numbers.{class};
 ghost use Rattle.pz_classes_code.specs.NumberIn.{number_in};
-ghost use Rattle.pz_classes.specs.devices.Rounds.{AreRound};
-ghost use Rattle.pz_classes.specs.Violations as rules;
-ghost use Rattle.pz_classes.specs.devices.ViolationList as list;
+ghost use Rattle.pz_classes_rules.specs.devices.Rounds.{AreRound};
+ghost use Rattle.pz_classes_rules.specs.Violations as rules;
+ghost use Rattle.pz_classes_rules.specs.devices.ViolationList as list;
 ghost use Rattle.pz_check_violations.specs.Least as least;
 
 use crate::declarations::{declaration, declared_name, extended, is_data, same_sort};
 use pz_check_violations::{Violation, lesser};
+use pz_classes_code::pz_syntax::{Decl, Id, Model, Name};
 use pz_classes_code::{Numbering, is_object, is_primitive, is_unsupported};
-use pz_syntax::{Decl, Id, Model, Name};
 
 /// Whether a class's name is declared before it, or is a primitive's.
 fn breaks_c1(model: &Model, numbering: &Numbering, number: u32, name: &Name) -> bool

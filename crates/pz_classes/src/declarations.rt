@@ -2,13 +2,13 @@
 
 ghost use Rattle.std.specs.Prelude.{◌≡◌};
 ghost use Rattle.std.specs.Option.{option_copied, option_map};
-ghost use Rattle.pz_syntax.specs.ClassView.{decl_view, model_view};
-ghost use Rattle.pz_classes.specs.Numbers as numbers;
-ghost use Rattle.pz_classes.specs.Ancestors as ancestors;
-ghost use Rattle.pz_classes.specs.Kinds as kinds;
-ghost use Rattle.pz_classes.specs.Violations as rules;
+ghost use Rattle.pz_classes_code.specs.pz_syntax.ClassView.{decl_view, model_view};
+ghost use Rattle.pz_classes_rules.specs.Numbers as numbers;
+ghost use Rattle.pz_classes_rules.specs.Ancestors as ancestors;
+ghost use Rattle.pz_classes_rules.specs.Kinds as kinds;
+ghost use Rattle.pz_classes_rules.specs.Violations as rules;
 
-use pz_syntax::{Decl, Id, Model};
+use pz_classes_code::pz_syntax::{Decl, Id, Model};
 
 /// The name of the class; a system declares none.
 pub(crate) fn declared_name(decl: &Decl) -> Option<&Id>

@@ -1,9 +1,9 @@
 // What is kept of the fields, variables and ports of a class.
 
 ghost use Rattle.std.specs.Prelude.{◌≡◌, IfOk};
-ghost use Rattle.pz_syntax.specs.Classes.{ModelTree};
+ghost use Rattle.pz_classes_code.specs.pz_syntax.Classes.{ModelTree};
 ghost use Rattle.pz_classes_code.specs.declared.numbering.Numbering.{Numbering as Names};
-ghost use Rattle.pz_classes.specs.Bodies.{scope_of};
+ghost use Rattle.pz_classes_rules.specs.Bodies.{scope_of};
 ghost use Rattle.pz_classes.specs.devices.Fronts.{lengths};
 ghost use Rattle.pz_classes.specs.devices.Surrounding.{scope_around, Numbers};
 

@@ -2,20 +2,21 @@
 
 ghost use Rattle.std.specs.Prelude.{◌≡◌, ◌||◌, false, [], IfSome};
 ghost use Rattle.std.specs.Option.{option_map, option_map_or, unwrap_or};
-ghost use Rattle.pz_syntax.specs.ClassView.{decl_view, model_view};
-ghost use Rattle.pz_classes.specs.Numbers as numbers;
-ghost use Rattle.pz_classes.specs.Kinds as kinds;
-ghost use Rattle.pz_classes.specs.Kinds.{is_process, is_cluster};
-ghost use Rattle.pz_classes.specs.Instances as spec;
-ghost use Rattle.pz_classes.specs.Tables.{HasClass, class_id};
+ghost use Rattle.pz_classes_code.specs.pz_syntax.ClassView.{decl_view, model_view};
+ghost use Rattle.pz_classes_rules.specs.Numbers as numbers;
+ghost use Rattle.pz_classes_rules.specs.Kinds as kinds;
+ghost use Rattle.pz_classes_rules.specs.Kinds.{is_process, is_cluster};
+ghost use Rattle.pz_classes_rules.specs.Instances as spec;
+ghost use Rattle.pz_classes_rules.specs.ClassNames.{class_id};
+ghost use Rattle.pz_classes.specs.Tables.{HasClass};
 ghost use Rattle.pz_classes.specs.devices.Rows.{AreClasses};
 
 use crate::Classes;
 use crate::declarations::declaration;
+use pz_classes_code::pz_items::Items;
+use pz_classes_code::pz_syntax::{Channel, Decl, Instance, Model, Name};
+use pz_classes_code::pz_value::ClassId;
 use pz_classes_code::{is_primitive, is_unsupported};
-use pz_items::Items;
-use pz_syntax::{Channel, Decl, Instance, Model, Name};
-use pz_value::ClassId;
 
 /// What a section has, nothing where it is not written.
 fn written<T>(section: &Option<Items<T>>) -> &[T]

@@ -14,11 +14,9 @@ mod error;
 mod finding;
 mod front;
 mod instances;
-pub mod laws;
 mod line;
 mod lists;
 mod members;
-mod method_id;
 mod method_index;
 mod methods;
 mod sharing;
@@ -31,8 +29,13 @@ pub use classes::Classes;
 pub use declarations::{declaration, extended};
 pub use error::BuildError;
 pub use instances::{channels_of, class_of_instance, instances_of, is_cluster};
-pub use method_id::{Counts, MethodId};
 pub use methods::{count_names, count_section};
+pub use pz_check_violations;
 pub use pz_check_violations::Violation;
-pub use pz_classes_code::{Body, Code, CodeForm, CodeLink, CodeSending, Slot, Step, StepForm};
+pub use pz_classes_code;
+pub use pz_classes_code::{
+    Body, Code, CodeForm, CodeLink, CodeSending, Slot, Step, StepForm, pz_items, pz_syntax,
+    pz_value,
+};
 pub use pz_classes_lineage::Visit;
+pub use pz_classes_rules::{Counts, MethodId};

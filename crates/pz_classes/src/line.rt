@@ -1,16 +1,16 @@
 // The classes of a line, of which each extends the one before, and their names.
 
 ghost use Rattle.std.specs.Prelude.{◌≡◌, ◌<◌, ◌+◌, ◌∷◌, [], ◌++◌, ℕ, Some, length, IfOk, IfSome, OnOk};
-ghost use Rattle.pz_syntax.specs.ClassView.{model_view};
+ghost use Rattle.pz_classes_code.specs.pz_syntax.ClassView.{model_view};
 ghost use Rattle.pz_classes_lineage.specs.Parents.{parent_in};
 ghost use Rattle.pz_classes_lineage.specs.Reached.{GoesRound};
-ghost use Rattle.pz_classes.specs.Ancestors.{parent};
+ghost use Rattle.pz_classes_rules.specs.Ancestors.{parent};
 ghost use Rattle.pz_classes.specs.devices.Inherited.{AddsAt};
 ghost use Rattle.pz_classes.specs.devices.Fronts.{lengths, IsLine, IsLineTo};
 
 use crate::ancestry::parent_at;
 use crate::members::{Lengths, Members};
-use pz_syntax::Model;
+use pz_classes_code::pz_syntax::Model;
 use std::alloc::{AllocError, Global};
 
 /// How many names of its line a class has: its own are the last of these.

@@ -1,19 +1,19 @@
 // The lists of names of a line, and what each of its classes has of them.
 
 ghost use Rattle.std.specs.Prelude.{◌≡◌, ◌<◌, ◌≤◌, ◌^◌, ◌++◌, ℕ, length, take, All, IfOk, OnOk};
-ghost use Rattle.pz_syntax.specs.ClassView.{model_view};
-ghost use Rattle.pz_syntax.specs.ModelText.{HasFewMarks};
+ghost use Rattle.pz_classes_code.specs.pz_syntax.ClassView.{model_view};
+ghost use Rattle.pz_classes_code.specs.pz_syntax.ModelText.{HasFewMarks};
 ghost use Rattle.pz_classes_lineage.specs.Reached.{GoesRound};
-ghost use Rattle.pz_classes.specs.Ancestors.{parent};
+ghost use Rattle.pz_classes_rules.specs.Ancestors.{parent};
 ghost use Rattle.pz_classes.specs.devices.Inherited.{AreFew};
 ghost use Rattle.pz_classes.specs.devices.Fronts.{behind, front, lengths, total, listed, AreWithin, IsEnd, IsTable, Fills, classes_of};
 
 use crate::front::Front;
 use crate::line::End;
 use crate::members::{Lengths, Members};
+use pz_classes_code::pz_items::{Items, Shared};
+use pz_classes_code::pz_syntax::{Model, Name};
 use pz_classes_code::{NameFront, NameList};
-use pz_items::{Items, Shared};
-use pz_syntax::{Model, Name};
 use std::alloc::{AllocError, Global};
 
 /// The lists of a line, each where several can own it, and how many of the names are from above.

@@ -2,14 +2,14 @@
 
 ghost use Rattle.std.specs.Prelude.{◌≡◌, ◌++◌, [], IfOk, OnOk};
 ghost use Rattle.std.specs.Option.{unwrap_or};
-ghost use Rattle.pz_syntax.specs.ClassView.{decl_view, model_view};
-ghost use Rattle.pz_classes.specs.Members.{spelled, grouped, section};
+ghost use Rattle.pz_classes_code.specs.pz_syntax.ClassView.{decl_view, model_view};
+ghost use Rattle.pz_classes_rules.specs.Members.{spelled, grouped, section};
 ghost use Rattle.pz_classes.specs.devices.Inherited.{Adds, AddsAt, none_yet};
 ghost use Rattle.pz_classes.specs.devices.Fronts.{lengths};
 
 use crate::declarations::declaration;
-use pz_items::Items;
-use pz_syntax::{Decl, Id, Model, Name, VarGroup};
+use pz_classes_code::pz_items::Items;
+use pz_classes_code::pz_syntax::{Decl, Id, Model, Name, VarGroup};
 use std::alloc::{AllocError, Global};
 
 /// Names of fields, variables and ports, in the order in which classes declare them.

@@ -3,14 +3,14 @@
 ghost use Rattle.std.specs.Prelude.{◌≡◌, ◌<◌, ◌+◌, ◌^◌, suc, None, Some, List, ℕ, [], ◌∷◌, ◌++◌, OnOk, if◌then◌else◌};
 ghost use Rattle.std.specs.Option.{option_or};
 ghost use Rattle.std.specs.Str.{bytes_eq};
-ghost use Rattle.pz_classes.specs.Methods as spec;
-ghost use Rattle.pz_classes.specs.Methods.{Signature, same_signature, method_id};
+ghost use Rattle.pz_classes_rules.specs.Methods as spec;
+ghost use Rattle.pz_classes_rules.specs.Methods.{Signature, same_signature, method_id};
 ghost use Rattle.pz_classes.specs.devices.MethodIn.{first_with_counts, overloads_in, method_in};
 
 use crate::{Counts, MethodId};
 use indexmap::IndexMap;
-use pz_items::Items;
-use pz_syntax::Name;
+use pz_classes_code::pz_items::Items;
+use pz_classes_code::pz_syntax::Name;
 use std::alloc::{AllocError, Global};
 
 /// One of the methods of a name.

@@ -1,17 +1,17 @@
 // The methods that a class declares.
 
 ghost use Rattle.std.specs.Prelude.{◌≡◌, ◌<◌, ◌+◌, ◌^◌, length, map, All, IfOk};
-ghost use Rattle.pz_syntax.specs.ClassView.{decl_view, data_method_view, process_method_view};
-ghost use Rattle.pz_syntax.specs.ModelText.{decl_text};
+ghost use Rattle.pz_classes_code.specs.pz_syntax.ClassView.{decl_view, data_method_view, process_method_view};
+ghost use Rattle.pz_classes_code.specs.pz_syntax.ModelText.{decl_text};
 ghost use Rattle.std.specs.Option.{unwrap_or};
-ghost use Rattle.pz_classes.specs.Members.{grouped, section};
-ghost use Rattle.pz_classes.specs.Methods.{data_signature, process_signature, signatures};
+ghost use Rattle.pz_classes_rules.specs.Members.{grouped, section};
+ghost use Rattle.pz_classes_rules.specs.Methods.{data_signature, process_signature, signatures};
 ghost use Rattle.pz_classes.specs.devices.MethodIn.{HasMethods};
 
 use crate::Counts;
 use crate::method_index::Methods;
-use pz_items::Items;
-use pz_syntax::{DataMethod, Decl, ProcessMethod, VarGroup};
+use pz_classes_code::pz_items::Items;
+use pz_classes_code::pz_syntax::{DataMethod, Decl, ProcessMethod, VarGroup};
 use std::alloc::{AllocError, Global};
 
 /// How many names these are.

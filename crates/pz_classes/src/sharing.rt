@@ -3,12 +3,12 @@
 
 ghost use Rattle.std.specs.Prelude.{◌≡◌, ◌<◌, ◌+◌, ◌∷◌, [], ℕ, None, length, map, take, All, IfOk, OnOk};
 ghost use Rattle.std.specs.Option.{IsSome, option_copied};
-ghost use Rattle.pz_syntax.specs.ClassView.{model_view};
-ghost use Rattle.pz_syntax.specs.ModelText.{HasFewMarks};
+ghost use Rattle.pz_classes_code.specs.pz_syntax.ClassView.{model_view};
+ghost use Rattle.pz_classes_code.specs.pz_syntax.ModelText.{HasFewMarks};
 ghost use Rattle.pz_classes_lineage.specs.Parents.{parent_in};
 ghost use Rattle.pz_classes_lineage.specs.Reached.{GoesRound};
 ghost use Rattle.pz_classes_lineage.specs.Preorder.{IsPreorder, visited};
-ghost use Rattle.pz_classes.specs.Ancestors.{parent};
+ghost use Rattle.pz_classes_rules.specs.Ancestors.{parent};
 ghost use Rattle.pz_classes.specs.devices.Inherited.{AreMembers, none_yet};
 ghost use Rattle.pz_classes.specs.devices.Fronts.{kept, kept_above, Inherits, IsTable, Fills};
 
@@ -18,10 +18,10 @@ use crate::front::Front;
 use crate::line::{Line, line_from};
 use crate::lists::Lists;
 use crate::members::Members;
+use pz_classes_code::pz_items::{Items, Shared};
+use pz_classes_code::pz_syntax::Model;
 use pz_classes_code::{NameFront, NameList};
 use pz_classes_lineage::Visit;
-use pz_items::{Items, Shared};
-use pz_syntax::Model;
 use std::alloc::{AllocError, Global};
 
 /// No names, before the first list. The only error is want of memory.

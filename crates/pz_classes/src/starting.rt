@@ -2,24 +2,24 @@
 
 ghost use Rattle.std.specs.Prelude.{◌≡◌, [], ℕ, List, IfOk};
 ghost use Rattle.std.specs.Option.{option_map, option_copied, option_and_then};
-ghost use Rattle.pz_syntax.specs.Classes.{ModelTree};
-ghost use Rattle.pz_syntax.specs.ClassView.{model_view, start_view};
-ghost use Rattle.pz_syntax.specs.Statements.{call};
+ghost use Rattle.pz_classes_code.specs.pz_syntax.Classes.{ModelTree};
+ghost use Rattle.pz_classes_code.specs.pz_syntax.ClassView.{model_view, start_view};
+ghost use Rattle.pz_classes_code.specs.pz_syntax.Statements.{call};
 ghost use Rattle.pz_classes_code.specs.StepView as step;
 ghost use Rattle.pz_classes_code.specs.Resolution.{resolved_all};
-ghost use Rattle.pz_classes.specs.Numbers.{declaration as declared};
-ghost use Rattle.pz_classes.specs.Ancestors.{ancestors};
+ghost use Rattle.pz_classes_rules.specs.Numbers.{declaration as declared};
+ghost use Rattle.pz_classes_rules.specs.Ancestors.{ancestors};
 ghost use Rattle.pz_classes.specs.devices.Inherited.{HasMembers};
-ghost use Rattle.pz_classes.specs.Starts.{own_start, own_call};
+ghost use Rattle.pz_classes_rules.specs.Starts.{own_start, own_call};
 ghost use Rattle.pz_classes.specs.devices.Surrounding.{scope_around, Numbers};
 
 use crate::declarations::declaration;
 use crate::front::Front;
 use crate::surroundings::Surroundings;
 use crate::{Code, Step, StepForm};
+use pz_classes_code::pz_items::{Items, Shared};
+use pz_classes_code::pz_syntax::{Decl, Id, Model, Start};
 use pz_classes_code::{Numbering, Scope, resolve_list};
-use pz_items::{Items, Shared};
-use pz_syntax::{Decl, Id, Model, Start};
 use std::alloc::{AllocError, Global};
 
 /// The `init` that the class of this number itself declares.

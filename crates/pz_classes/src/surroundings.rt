@@ -3,7 +3,7 @@
 ghost use Rattle.std.specs.Prelude.{◌≡◌, ◌<◌, ◌^◌, length};
 
 use pz_classes_code::NameFront;
-use pz_syntax::Name;
+use pz_classes_code::pz_syntax::Name;
 
 /// What the methods of a class have in common: its fields or variables, and its ports.
 #[derive(Clone, Copy)]

@@ -1,13 +1,13 @@
 // What is kept of the classes of a model.
 
 ghost use Rattle.std.specs.Prelude.{◌≡◌, ◌<◌, ◌+◌, ◌-◌, ◌^◌, ℕ, List, length, map, IfOk};
-ghost use Rattle.pz_syntax.specs.ClassView.{model_view};
-ghost use Rattle.pz_syntax.specs.ModelText.{HasFewMarks};
+ghost use Rattle.pz_classes_code.specs.pz_syntax.ClassView.{model_view};
+ghost use Rattle.pz_classes_code.specs.pz_syntax.ModelText.{HasFewMarks};
 ghost use Rattle.pz_classes_code.specs.NumberIn.{number_in};
-ghost use Rattle.pz_classes.specs.Numbers.{class as numbered};
-ghost use Rattle.pz_classes.specs.Ancestors.{ancestors, parent};
+ghost use Rattle.pz_classes_rules.specs.Numbers.{class as numbered};
+ghost use Rattle.pz_classes_rules.specs.Ancestors.{ancestors, parent};
 ghost use Rattle.pz_classes.specs.devices.Inherited.{HasMembers, AreMembers};
-ghost use Rattle.pz_classes.specs.Methods.{methods_before};
+ghost use Rattle.pz_classes_rules.specs.Methods.{methods_before};
 ghost use Rattle.pz_classes.specs.devices.MethodIn.{HasMethodsOf};
 ghost use Rattle.pz_classes_lineage.specs.Parents.{parent_in};
 ghost use Rattle.pz_classes_lineage.specs.Reached.{GoesRound};
@@ -22,8 +22,8 @@ use crate::method_index::Methods;
 use crate::methods::methods_of;
 use crate::starting::start_at;
 use pz_classes_code::Numbering;
-use pz_items::Items;
-use pz_syntax::Model;
+use pz_classes_code::pz_items::Items;
+use pz_classes_code::pz_syntax::Model;
 use std::alloc::{AllocError, Global};
 
 /// The methods that the class of this number itself declares, of which the first has the number

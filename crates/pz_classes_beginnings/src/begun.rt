@@ -5,7 +5,7 @@ ghost use Rattle.pz_syntax.specs.StatementView.{view, sequence_view, branches_of
 ghost use Rattle.pz_classes_beginnings.specs.Beginning.{begun, begun_all, begun_each};
 
 use crate::plain::add_call;
-use pz_items::Items;
+use pz_syntax::pz_items::Items;
 use pz_syntax::{Id, Stmt, StmtForm};
 use std::alloc::AllocError;
 

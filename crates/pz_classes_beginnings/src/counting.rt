@@ -4,7 +4,7 @@ ghost use Rattle.std.specs.Prelude.{◌≡◌, ◌+◌, map, min};
 ghost use Rattle.pz_syntax.specs.StatementView.{view, sequence_view, branches_of};
 ghost use Rattle.pz_classes_beginnings.specs.Beginning.{statements_in, statements_in_all, statements_in_each};
 
-use pz_items::Items;
+use pz_syntax::pz_items::Items;
 use pz_syntax::{Stmt, StmtForm};
 
 /// So many more, as far as the limit.

@@ -6,7 +6,7 @@ ghost use Rattle.pz_syntax.specs.StatementView.{view, sequence_view, branches_of
 ghost use Rattle.pz_classes_beginnings.specs.Beginning as spec;
 ghost use Rattle.pz_classes_beginnings.specs.Beginning.{if_plain, all_plain_calls, plain_calls_of_each};
 
-use pz_items::Items;
+use pz_syntax::pz_items::Items;
 use pz_syntax::{Expr, Id, Stmt, StmtForm};
 use std::alloc::AllocError;
 

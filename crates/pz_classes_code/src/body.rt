@@ -1,5 +1,5 @@
 use crate::{Code, Step};
-use pz_items::{Items, Shared};
+use pz_syntax::pz_items::{Items, Shared};
 
 /// The body of a method. `locals` is how many inputs, outputs and locals there are; they are
 /// numbered in this order.

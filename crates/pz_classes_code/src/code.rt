@@ -1,5 +1,5 @@
 use crate::Slot;
-use pz_items::{Boxed, Items};
+use pz_syntax::pz_items::{Boxed, Items};
 use pz_syntax::{Id, Literal, Pos, Symbol};
 use pz_value::ClassId;
 

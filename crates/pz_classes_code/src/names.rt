@@ -8,8 +8,8 @@ ghost use Rattle.pz_classes_code.specs.devices.Above.{names_above};
 
 use crate::Numbering;
 use crate::numbering::first_places;
-use pz_items::{Items, Shared};
 use pz_syntax::Name;
+use pz_syntax::pz_items::{Items, Shared};
 use std::alloc::{AllocError, Global};
 use std::marker::Model;
 

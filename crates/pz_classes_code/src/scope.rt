@@ -5,7 +5,7 @@ ghost use Rattle.pz_classes_code.specs.Resolution as spec;
 ghost use Rattle.pz_classes_code.specs.ScopeView.{scope_view};
 
 use crate::{NameFront, Numbering, Slot, is_array};
-use pz_items::Items;
+use pz_syntax::pz_items::Items;
 use pz_syntax::{Id, Name};
 use pz_value::ClassId;
 use std::alloc::{AllocError, Global};

@@ -1,7 +1,7 @@
 ghost use Rattle.std.specs.Prelude.{◌≡◌, IfOk};
 
 use crate::{Code, Slot};
-use pz_items::{Boxed, Items, Shared};
+use pz_syntax::pz_items::{Boxed, Items, Shared};
 use pz_syntax::{Id, Pos};
 use std::alloc::AllocError;
 

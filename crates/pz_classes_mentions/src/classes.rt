@@ -12,7 +12,7 @@ use crate::groups::{section, tell_named_types, tell_types};
 use crate::instances::tell_instances;
 use crate::statements::tell_statements;
 use crate::{Listener, Word};
-use pz_items::Items;
+use pz_syntax::pz_items::Items;
 use pz_syntax::{
     ClusterClass, DataClass, DataMethod, Id, Message, ProcessClass, ProcessMethod, Start,
 };

@@ -7,7 +7,7 @@ ghost use Rattle.pz_classes_mentions.specs.Statements.{variables};
 ghost use Rattle.pz_classes_mentions.specs.Words.{mention, told};
 
 use crate::{Listener, Word};
-use pz_items::{Boxed, Items};
+use pz_syntax::pz_items::{Boxed, Items};
 use pz_syntax::{Expr, ExprForm, Id, Link, Literal, Pos, Sending};
 
 /// How many expressions these are.

@@ -6,7 +6,7 @@ ghost use Rattle.pz_classes_mentions.specs.Declarations.{named_types, types};
 ghost use Rattle.pz_classes_mentions.specs.Words.{told};
 
 use crate::{Listener, Word};
-use pz_items::Items;
+use pz_syntax::pz_items::Items;
 use pz_syntax::{Id, VarGroup};
 
 /// None where the section is not written.

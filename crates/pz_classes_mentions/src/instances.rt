@@ -7,7 +7,7 @@ ghost use Rattle.pz_classes_mentions.specs.Words.{told};
 
 use crate::expressions::{tell_literal, variable};
 use crate::{Listener, Word};
-use pz_items::Items;
+use pz_syntax::pz_items::Items;
 use pz_syntax::{Arg, Given, Instance};
 
 fn tell_argument<L: Listener>(listener: &L, heard: L::Heard, arg: &Arg) -> L::Heard

@@ -1,6 +1,6 @@
 use crate::Mention;
-use pz_items::Items;
 use pz_syntax::Id;
+use pz_syntax::pz_items::Items;
 
 /// A stretch of a declaration in which the same local names are known.
 #[derive(Drop)]

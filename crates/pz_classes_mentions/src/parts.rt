@@ -13,7 +13,7 @@ use crate::groups::section;
 use crate::instances::tell_instances;
 use crate::part::Stretch;
 use crate::{Listener, Locals, Part};
-use pz_items::Items;
+use pz_syntax::pz_items::Items;
 use pz_syntax::{DataClass, DataMethod, Decl, ProcessClass, ProcessMethod};
 use std::alloc::{AllocError, Global};
 

@@ -13,7 +13,7 @@ use crate::expressions::{
     count_args, count_exprs, tell_expr, tell_exprs, tell_part, tell_variables, unboxed, variable,
 };
 use crate::{Listener, Word};
-use pz_items::{Boxed, Items};
+use pz_syntax::pz_items::{Boxed, Items};
 use pz_syntax::{Expr, Id, Stmt, StmtForm};
 
 #[cycle(tell)]

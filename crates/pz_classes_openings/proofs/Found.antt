@@ -6,12 +6,12 @@ use Rattle.std.specs.Str.{bytes_eq}
 use Rattle.std.proofs.lemmas.Bool.{eqb-true}
 use Rattle.std.proofs.lemmas.Slice.Eq.{bytes_eq-Decides}
 use Rattle.std.proofs.lemmas.List.Sums.{sum_by-cons}
-use Rattle.pz_syntax.specs.Classes.{DeclTree, data_class, process_class, cluster_class, system, DataMethodTree, ProcessMethodTree, ModelTree}
-use Rattle.pz_classes.specs.declared.method_id.Counts.{Counts}
-use Rattle.pz_classes.specs.declared.method_id.Counts.TheVariants.{Data, Process}
-use Rattle.pz_classes.specs.declared.method_id.MethodId.{MethodId}
-use Rattle.pz_classes.specs.Ancestors.{ancestors}
-use Rattle.pz_classes.specs.Methods.{Signature, same_counts, same_signature, data_signature, process_signature, signatures, methods_before, first_with, method_id, own_method, nearest, method_with}
+use Rattle.pz_classes_rules.specs.pz_syntax.Classes.{DeclTree, data_class, process_class, cluster_class, system, DataMethodTree, ProcessMethodTree, ModelTree}
+use Rattle.pz_classes_rules.specs.declared.method_id.Counts.{Counts}
+use Rattle.pz_classes_rules.specs.declared.method_id.Counts.TheVariants.{Data, Process}
+use Rattle.pz_classes_rules.specs.declared.method_id.MethodId.{MethodId}
+use Rattle.pz_classes_rules.specs.Ancestors.{ancestors}
+use Rattle.pz_classes_rules.specs.Methods.{Signature, same_counts, same_signature, data_signature, process_signature, signatures, methods_before, first_with, method_id, own_method, nearest, method_with}
 use Rattle.pz_classes_openings.specs.Methods.{declared_methods, methods, method_at}
 
 both_true : (b c : Bool) → (b && c) ≡ true → (b ≡ true) × (c ≡ true)

@@ -1,9 +1,9 @@
 -- A body with slots and numbers in place of names has the same plain calls, and begins with the same.
 use Rattle.std.proofs.Common.{◌≡◌, refl, List, [], ◌∷◌}
-use Rattle.pz_syntax.specs.declared.names.Id.{Id}
-use Rattle.pz_syntax.specs.Expressions.{Expressions, none, more}
-use Rattle.pz_syntax.specs.Statements.{Statement, skip, delay, bracketed, block, guarded, parallel, select, conditional, repeated, abort, interrupt, send, receive, call, assignment, value, Statements, no_statements, then, StatementPart, not_written, otherwise, Branches, no_branches, branch}
-use Rattle.pz_classes_code.specs.Resolution.{Scope, resolved_all, resolved_statement, resolved_statements, resolved_otherwise, resolved_branches, slots_of}
+use Rattle.pz_classes_rules.specs.pz_syntax.declared.names.Id.{Id}
+use Rattle.pz_classes_rules.specs.pz_syntax.Expressions.{Expressions, none, more}
+use Rattle.pz_classes_rules.specs.pz_syntax.Statements.{Statement, skip, delay, bracketed, block, guarded, parallel, select, conditional, repeated, abort, interrupt, send, receive, call, assignment, value, Statements, no_statements, then, StatementPart, not_written, otherwise, Branches, no_branches, branch}
+use Rattle.pz_classes_rules.specs.pz_classes_code.Resolution.{Scope, resolved_all, resolved_statement, resolved_statements, resolved_otherwise, resolved_branches, slots_of}
 use Rattle.pz_classes_beginnings.specs.Beginning.{if_plain, begun, begun_all, begun_each, plain_calls, all_plain_calls, plain_calls_of_part, plain_calls_of_each}
 
 module _ (s : Scope) where

@@ -2,9 +2,9 @@
 use Rattle.std.specs.Prelude.{ℕ, List, [], map, Option, Some, None, slice_get}
 use Rattle.std.specs.Option.{unwrap_or, option_map_or}
 use Rattle.std.specs.List.{flat_map}
-use Rattle.pz_syntax.specs.declared.names.Id.{Id}
-use Rattle.pz_syntax.specs.Statements.{Statements, no_statements}
-use Rattle.pz_syntax.specs.Classes.{DeclTree, data_class, process_class, ProcessMethodTree, ModelTree}
+use Rattle.pz_classes_rules.specs.pz_syntax.declared.names.Id.{Id}
+use Rattle.pz_classes_rules.specs.pz_syntax.Statements.{Statements, no_statements}
+use Rattle.pz_classes_rules.specs.pz_syntax.Classes.{DeclTree, data_class, process_class, ProcessMethodTree, ModelTree}
 
 -- the methods that a class itself declares, in the order of the text; one of a data class has no
 -- statements, and stands there as None

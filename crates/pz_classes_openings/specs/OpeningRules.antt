@@ -1,12 +1,12 @@
 -- The rules without which opening would not end, or would be too large: C23 and C24.
 use Rattle.std.specs.Prelude.{◌≡◌, ◌<◌, ℕ, Some, Contains, IsTrue}
-use Rattle.pz_syntax.specs.declared.names.Id.{Id}
-use Rattle.pz_syntax.specs.Classes.{DeclTree, ProcessMethodTree, ModelTree}
-use Rattle.pz_check_violations.specs.declared.violation.Violation.{Violation}
-use Rattle.pz_check_violations.specs.Order.{violation, IsLeast}
-use Rattle.pz_classes.specs.Numbers.{declaration}
-use Rattle.pz_classes.specs.Kinds.{is_process}
-use Rattle.pz_classes.specs.Methods.{method_id}
+use Rattle.pz_classes_rules.specs.pz_syntax.declared.names.Id.{Id}
+use Rattle.pz_classes_rules.specs.pz_syntax.Classes.{DeclTree, ProcessMethodTree, ModelTree}
+use Rattle.pz_classes_rules.specs.pz_check_violations.declared.violation.Violation.{Violation}
+use Rattle.pz_classes_rules.specs.pz_check_violations.Order.{violation, IsLeast}
+use Rattle.pz_classes_rules.specs.Numbers.{declaration}
+use Rattle.pz_classes_rules.specs.Kinds.{is_process}
+use Rattle.pz_classes_rules.specs.Methods.{method_id}
 use Rattle.pz_classes_openings.specs.Methods.{method_at}
 use Rattle.pz_classes_openings.specs.Openings.{begun_at, HasMethod, called, Leads, spread_to}
 

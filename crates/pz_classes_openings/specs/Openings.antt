@@ -3,10 +3,10 @@
 use Rattle.std.specs.Prelude.{◌≡◌, ℕ, zero, suc, ◌+◌, List, Option, Some, Contains}
 use Rattle.std.specs.Option.{option_map_or}
 use Rattle.std.specs.List.{sum_by}
-use Rattle.pz_syntax.specs.declared.names.Id.{Id}
-use Rattle.pz_syntax.specs.Classes.{ModelTree}
-use Rattle.pz_classes.specs.declared.method_id.MethodId.{MethodId}
-use Rattle.pz_classes.specs.Methods.{Signature, method_id, method_with, process_method}
+use Rattle.pz_classes_rules.specs.pz_syntax.declared.names.Id.{Id}
+use Rattle.pz_classes_rules.specs.pz_syntax.Classes.{ModelTree}
+use Rattle.pz_classes_rules.specs.declared.method_id.MethodId.{MethodId}
+use Rattle.pz_classes_rules.specs.Methods.{Signature, method_id, method_with, process_method}
 use Rattle.pz_classes_beginnings.specs.Beginning.{begun_all, all_plain_calls, statements_in_all}
 use Rattle.pz_classes_openings.specs.Methods.{body_at}
 

@@ -7,3 +7,4 @@ pub mod Texts
 pub mod Parcelled
 pub mod Steps
 pub mod Rows
+pub use Rattle.pz_state.proofs as pz_state_proofs

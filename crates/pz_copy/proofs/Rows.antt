@@ -2,8 +2,8 @@
 use Rattle.std.proofs.Common.{◌≡◌, refl, subst, lit<, ℕ, zero, suc, true, false, List, [], ◌∷◌, Some}
 use Rattle.std.specs.Prelude.{pos, negsuc, slice_get, codes}
 use Rattle.std.proofs.lemmas.Fmt.{decimal_digit}
-use Rattle.pz_value.specs.declared.value.Value.{Value}
-use Rattle.pz_value.specs.declared.value.Value.TheVariants as value
+use Rattle.pz_state.specs.pz_value.declared.value.Value.{Value}
+use Rattle.pz_state.specs.pz_value.declared.value.Value.TheVariants as value
 use Rattle.pz_state.specs.Objects.{ObjectView}
 use Rattle.pz_state.specs.States.{StateView}
 use Rattle.pz_copy.specs.References.{IsIn}

@@ -2,7 +2,7 @@
 use Rattle.std.proofs.Common.{◌≡◌, refl, sym, ◌∙◌, ap, subst, ℕ, zero, suc, ◌+◌, ◌-◌, ◌<◌, ◌≤◌, List, [], ◌∷◌, length, take, get_or, Some, arith}
 use Rattle.std.specs.Prelude.{All, slice_get}
 use Rattle.std.proofs.lemmas.List.{length-map}
-use Rattle.pz_value.specs.declared.value.Value.{Value}
+use Rattle.pz_state.specs.pz_value.declared.value.Value.{Value}
 use Rattle.pz_state.specs.Objects.{ObjectView, StoredObject}
 use Rattle.pz_state.specs.States.{StateView, object, nils, made, set_item, HasItem}
 use Rattle.pz_state.specs.References.{RefersWithin}

@@ -2,7 +2,7 @@
 -- are numbers in that list.
 use Rattle.std.specs.Prelude.{◌≡◌, ℕ, not, nat_eq, List, [], ◌∷◌, ◌++◌, take, map, filter, Some, slice_get}
 use Rattle.std.specs.List.{flat_map, position_or_len}
-use Rattle.pz_value.specs.declared.value.Value.{Value}
+use Rattle.pz_state.specs.pz_value.declared.value.Value.{Value}
 use Rattle.pz_state.specs.Objects.{ObjectView}
 use Rattle.pz_state.specs.States.{StateView, object}
 use Rattle.pz_copy.specs.References.{references, IsIn, renumbered, renumbered_object}

@@ -3,9 +3,9 @@ use Rattle.std.specs.Prelude.{ℕ, ◌+◌, ◌-◌, ◌/◌, ◌%◌, ◌||◌,
 use Rattle.std.specs.List.{flat_map}
 use Rattle.std.specs.Fmt.{decimal, signed_decimal}
 use Rattle.pz_items.specs.Characters.{byte}
-use Rattle.pz_value.specs.declared.value.ClassId.{ClassId}
-use Rattle.pz_value.specs.declared.value.Value.{Value}
-use Rattle.pz_value.specs.declared.value.Value.TheVariants as value
+use Rattle.pz_state.specs.pz_value.declared.value.ClassId.{ClassId}
+use Rattle.pz_state.specs.pz_value.declared.value.Value.{Value}
+use Rattle.pz_state.specs.pz_value.declared.value.Value.TheVariants as value
 use Rattle.pz_state.specs.Objects.{ObjectView}
 use Rattle.pz_copy.specs.Parcels.{ParcelView}
 

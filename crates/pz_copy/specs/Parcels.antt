@@ -1,7 +1,7 @@
 -- What a parcel is seen as, and what its type keeps.
 use Rattle.std.specs.Prelude.{◌<◌, ◌≤◌, ◌^◌, List, length, All, map}
 use Rattle.pz_state.specs.States.{object_limit}
-use Rattle.pz_value.specs.declared.value.Value.{Value}
+use Rattle.pz_state.specs.pz_value.declared.value.Value.{Value}
 use Rattle.pz_state.specs.Objects.{ObjectView, StoredObject}
 use Rattle.pz_state.specs.References.{RefersWithin}
 

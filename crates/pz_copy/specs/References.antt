@@ -1,8 +1,8 @@
 -- References in values, which are the numbers of objects, and other numbers in their place.
 use Rattle.std.specs.Prelude.{◌≡◌, ℕ, true, nat_eq, List, [], ◌∷◌, map}
 use Rattle.std.specs.List.{list_any, flat_map}
-use Rattle.pz_value.specs.declared.value.Value.{Value}
-use Rattle.pz_value.specs.declared.value.Value.TheVariants as value
+use Rattle.pz_state.specs.pz_value.declared.value.Value.{Value}
+use Rattle.pz_state.specs.pz_value.declared.value.Value.TheVariants as value
 use Rattle.pz_state.specs.Objects.{ObjectView}
 
 abbrev pub reference_of : Value → List ℕ

@@ -1,6 +1,6 @@
 -- What values lead to, and that other values in another state lead to the same but for the numbers.
 use Rattle.std.specs.Prelude.{◌≡◌, ℕ, List, map}
-use Rattle.pz_value.specs.declared.value.Value.{Value}
+use Rattle.pz_state.specs.pz_value.declared.value.Value.{Value}
 use Rattle.pz_state.specs.States.{StateView, object}
 use Rattle.pz_copy.specs.References.{references, IsIn, renumbered, renumbered_object}
 

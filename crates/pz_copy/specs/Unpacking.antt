@@ -1,7 +1,7 @@
 -- What unpacking a parcel leaves: its objects behind those that were there, and references that are
 -- as much greater as there were objects.
 use Rattle.std.specs.Prelude.{ℕ, ◌+◌, List, ◌++◌, length, map}
-use Rattle.pz_value.specs.declared.value.Value.{Value}
+use Rattle.pz_state.specs.pz_value.declared.value.Value.{Value}
 use Rattle.pz_state.specs.Objects.{ObjectView}
 use Rattle.pz_state.specs.States.{StateView}
 use Rattle.pz_copy.specs.References.{renumbered, renumbered_object}

@@ -5,7 +5,7 @@ ghost use Rattle.pz_copy.specs.Parcels.{plain_objects};
 ghost use Rattle.pz_copy.specs.devices.Contents.{values_of, objects_of};
 
 use pz_state::Object;
-use pz_value::Value;
+use pz_state::pz_value::Value;
 use std::alloc::{AllocError, Global};
 use std::slice;
 

@@ -11,4 +11,6 @@ mod unpacking;
 
 pub use packing::pack;
 pub use parcel::Parcel;
+pub use pz_state;
+pub use pz_state::pz_value;
 pub use unpacking::{UnpackError, unpack};

@@ -9,7 +9,7 @@ ghost use Rattle.pz_state.specs.States.{object_limit};
 
 use indexmap::IndexSet;
 use pz_state::State;
-use pz_value::Value;
+use pz_state::pz_value::Value;
 use std::alloc::{AllocError, Global};
 
 /// Lists the references of the values that are not in the list. The only error is want of memory.

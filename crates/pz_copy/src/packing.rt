@@ -11,8 +11,8 @@ ghost use Rattle.pz_state.specs.States.{object_limit};
 use crate::listing::list_reached;
 use crate::parcel::Parcel;
 use indexmap::IndexSet;
+use pz_state::pz_value::Value;
 use pz_state::{Object, State};
-use pz_value::Value;
 use std::alloc::{AllocError, Global};
 
 /// The place of a number in the list; how long the list is where it is not there.

@@ -3,7 +3,7 @@ ghost use Rattle.pz_copy.specs.Parcels.{plain_objects, IsParcel};
 
 use crate::contents::Contents;
 use pz_state::Object;
-use pz_value::Value;
+use pz_state::pz_value::Value;
 use std::alloc::{AllocError, Global};
 use std::marker::Model;
 

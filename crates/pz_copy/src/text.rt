@@ -11,7 +11,7 @@ ghost use Rattle.pz_state.specs.States.{object_limit};
 
 use crate::parcel::Parcel;
 use pz_state::Object;
-use pz_value::{ClassId, Text, Value};
+use pz_state::pz_value::{ClassId, Text, Value};
 use std::alloc::AllocError;
 
 fn hex_digit(digit: u8) -> u8

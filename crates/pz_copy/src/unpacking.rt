@@ -1,7 +1,7 @@
 //! From a parcel into a state.
 
 ghost use Rattle.std.specs.Prelude.{◌≡◌, ◌<◌, ◌≤◌, ◌+◌, ◌-◌, ◌^◌, ◌↔◌, ◌++◌, ℕ, List, length, take, map, All, Err, IfOk, OnOk, OnErr};
-ghost use Rattle.pz_value.specs.declared.value.Value.{Value};
+ghost use Rattle.pz_state.specs.pz_value.declared.value.Value.{Value};
 ghost use Rattle.pz_state.specs.References.{RefersWithin};
 ghost use Rattle.pz_state.specs.States.{StateView, object, nils};
 ghost use Rattle.pz_state.specs.Marks.{changed};
@@ -14,8 +14,8 @@ ghost use Rattle.pz_copy.specs.devices.Filling.{blank_of, with_blanks, filled};
 ghost use Rattle.pz_state.specs.States.{object_limit};
 
 use crate::parcel::Parcel;
+use pz_state::pz_value::Value;
 use pz_state::{MakeError, OBJECT_LIMIT, Object, State};
-use pz_value::Value;
 use std::alloc::{AllocError, Global};
 
 /// Why [`unpack`] copied nothing.

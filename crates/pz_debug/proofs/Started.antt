@@ -2,12 +2,12 @@
 use Rattle.std.proofs.Common.{◌≡◌, ◌≢◌, ℕ, List, [], Result, Ok, Err, refl, sym, subst}
 use Rattle.pz_io.specs.Outside.{SinkState}
 use Rattle.pz_io.specs.declared.writing.Halt.{Halt}
-use Rattle.pz_syntax.specs.Classes.{ModelTree}
-use Rattle.pz_classes.specs.Soundness.{IsSound}
+use Rattle.pz_bind.specs.pz_syntax.Classes.{ModelTree}
+use Rattle.pz_bind.specs.pz_classes_rules.Soundness.{IsSound}
 use Rattle.pz_classes_openings.specs.OpeningRules.{Opens}
-use Rattle.pz_rules.specs.Settings.{Setting}
-use Rattle.pz_term_simulator.specs.Simulations as simulations
-use Rattle.pz_term_simulator.specs.Simulations.{Simulation, Starts, setting_in}
+use Rattle.pz_term_processes.specs.pz_rules.Settings.{Setting}
+use Rattle.pz_sim.specs.pz_term_simulator.Simulations as simulations
+use Rattle.pz_sim.specs.pz_term_simulator.Simulations.{Simulation, Starts, setting_in}
 use Rattle.pz_debug_session.specs.declared.step.Step.{Step}
 use Rattle.pz_debug_session.specs.Laws.{BeginsLow}
 use Rattle.pz_debug_replies.specs.Replying.{IsAt, WroteSession}

@@ -2,11 +2,11 @@
 use Rattle.std.proofs.Common.{◌≡◌, ◌⊎◌, inl, inr, ⊎_elim, ◌∙◌, ◌<◌, ◌≤◌, ℕ, List, [], ◌∷◌, ◌++◌, true, Option, Some, None, length, refl, sym, subst, ap, arith, append_assoc}
 use Rattle.std.specs.Prelude.{Contains}
 use Rattle.pz_io.specs.Outside.{Entries, FilesState, SinkState, lookup, raised, Rose, LacksName, FilesFailedLast, Exceeds}
-use Rattle.pz_syntax.specs.Classes.{ModelTree}
-use Rattle.pz_run_reading.specs.declared.read_error.ReadModelError.{ReadModelError}
-use Rattle.pz_run_reading.specs.declared.read_error.ReadModelError.TheVariants.{NoMemory, Refused}
-use Rattle.pz_run_reading.specs.Answers.{OnRefused}
-use Rattle.pz_run_reading.specs.Openings.{IsRefusedToOpen}
+use Rattle.pz_bind.specs.pz_syntax.Classes.{ModelTree}
+use Rattle.pz_run_lines.specs.pz_run_reading.declared.read_error.ReadModelError.{ReadModelError}
+use Rattle.pz_run_lines.specs.pz_run_reading.declared.read_error.ReadModelError.TheVariants.{NoMemory, Refused}
+use Rattle.pz_run_lines.specs.pz_run_reading.Answers.{OnRefused}
+use Rattle.pz_run_lines.specs.pz_run_reading.Openings.{IsRefusedToOpen}
 use Rattle.pz_run_lines.specs.Lines.{read_fault_line, too_long_line, model_refused_line}
 use Rattle.pz_debug.specs.Limits.{model_limit, command_limit}
 use Rattle.pz_debug.specs.declared.status.DebugStatus.{DebugStatus}

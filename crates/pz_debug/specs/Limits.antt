@@ -1,7 +1,7 @@
 -- What a session may take.
 use Rattle.std.specs.Prelude.{ℕ}
-use Rattle.pz_rules.specs.declared.limits.Edition.TheVariants.{Two}
-use Rattle.pz_rules.specs.declared.limits.Limits.{Limits}
+use Rattle.pz_term_processes.specs.pz_rules.declared.limits.Edition.TheVariants.{Two}
+use Rattle.pz_term_processes.specs.pz_rules.declared.limits.Limits.{Limits}
 
 -- the most bytes that a model may have, and a file of commands
 abbrev pub model_limit : ℕ

@@ -2,10 +2,10 @@
 -- it is refused, then the size of the file of commands, then the session.
 use Rattle.std.specs.Prelude.{◌<◌, ◌≤◌, ℕ, List, length, Option, Some, None}
 use Rattle.pz_io.specs.Outside.{Entries, lookup}
-use Rattle.pz_syntax.specs.Classes.{ModelTree}
-use Rattle.pz_rules.specs.Settings.{Setting}
-use Rattle.pz_run_reading.specs.declared.refusal.Refusal.{Refusal}
-use Rattle.pz_run_reading.specs.Openings.{IsOpenModelOf, IsRefusedToOpen}
+use Rattle.pz_bind.specs.pz_syntax.Classes.{ModelTree}
+use Rattle.pz_term_processes.specs.pz_rules.Settings.{Setting}
+use Rattle.pz_run_lines.specs.pz_run_reading.declared.refusal.Refusal.{Refusal}
+use Rattle.pz_run_lines.specs.pz_run_reading.Openings.{IsOpenModelOf, IsRefusedToOpen}
 use Rattle.pz_run_lines.specs.Lines.{read_fault_line, too_long_line, model_refused_line}
 use Rattle.pz_debug_replies.specs.Sessions.{IsSessionText}
 use Rattle.pz_debug.specs.Limits.{session_limits}

@@ -3,9 +3,9 @@
 use Rattle.std.specs.Prelude.{◌≡◌, ◌≢◌, ◌⊎◌, ◌<◌, ◌≤◌, ℕ, zero, suc, List, [], ◌∷◌, ◌++◌, true, length, Contains, slice_get, Option, Some, None}
 use Rattle.pz_io.specs.Outside.{Entries, FilesState, SinkState, lookup, raised, Rose, FilesFailedLast, SinkFailedLast, Exceeds}
 use Rattle.pz_io.specs.Writing.{TookAll, TookFront}
-use Rattle.pz_syntax.specs.Classes.{ModelTree}
-use Rattle.pz_run_reading.specs.declared.refusal.Refusal.{Refusal}
-use Rattle.pz_run_reading.specs.Openings.{IsOpenModelOf, IsRefusedToOpen}
+use Rattle.pz_bind.specs.pz_syntax.Classes.{ModelTree}
+use Rattle.pz_run_lines.specs.pz_run_reading.declared.refusal.Refusal.{Refusal}
+use Rattle.pz_run_lines.specs.pz_run_reading.Openings.{IsOpenModelOf, IsRefusedToOpen}
 use Rattle.pz_run_lines.specs.Lines.{read_fault_line}
 use Rattle.pz_debug.specs.Limits.{model_limit}
 use Rattle.pz_debug.specs.Asked.{Asked}

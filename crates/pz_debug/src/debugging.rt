@@ -1,7 +1,7 @@
 // What is done with the two files of a session. The commands are opened once the model is accepted.
 ghost use Rattle.std.specs.Prelude.{◌≡◌, ◌-◌, ◌<◌, ◌^◌, length};
-ghost use Rattle.pz_classes.specs.CheckedView.{checked_model};
-ghost use Rattle.pz_classes.specs.Soundness.{IsSound};
+ghost use Rattle.pz_bind.specs.pz_classes.CheckedView.{checked_model};
+ghost use Rattle.pz_bind.specs.pz_classes_rules.Soundness.{IsSound};
 ghost use Rattle.pz_classes_openings.specs.OpeningRules.{Opens};
 ghost use Rattle.pz_debug.specs.Files.{command_file};
 ghost use Rattle.pz_debug.specs.Output.{PrintsSession};
@@ -13,9 +13,9 @@ use crate::engine::Trees;
 use crate::limits::{COMMAND_LIMIT, MODEL_LIMIT};
 use crate::refusing::{say_refused, say_unread};
 use crate::sessions::debug_model;
-use pz_classes::Checked;
+use pz_bind::pz_classes::Checked;
 use pz_io::{Files, Sink, read_all};
-use pz_run_reading::read_open_model;
+use pz_run_lines::pz_run_reading::read_open_model;
 use std::alloc::Global;
 use std::mem::drop;
 
@@ -48,7 +48,7 @@ fn debug_text<F: Files, W: Sink>(
     ensures { DebugsText commands.now (F.state files.old) (F.state files.new) (W.state out.old)
         (W.state out.new) result text.now }
 {
-    pz_run_reading::laws::open_or_refused();
+    pz_run_lines::pz_run_reading::laws::open_or_refused();
     match read_open_model(alloc, text) {
         Ok(checked) => debug_commands(alloc, checked, commands, files, out),
         Err(error) => say_refused(alloc, error, out),

@@ -1,10 +1,12 @@
 // Execution trees as the engine of sessions.
 
 use pz_bind::Net;
-use pz_classes::Checked;
+use pz_bind::pz_classes::Checked;
 use pz_debug_session::Engine;
 use pz_sim::Sim;
-use pz_term_simulator::{Action, ChooseError, Limits, Moment, Parcel, PassError, Simulator, Steps};
+use pz_sim::pz_term_simulator::{
+    Action, ChooseError, Limits, Moment, Parcel, PassError, Simulator, Steps,
+};
 use std::alloc::{AllocError, Global};
 use std::sync::ledger::Ledger;
 

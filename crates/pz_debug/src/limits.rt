@@ -1,7 +1,7 @@
 ghost use Rattle.std.specs.Prelude.{◌≡◌};
 ghost use Rattle.pz_debug.specs.Limits as spec;
 
-use pz_term_simulator::{Edition, Limits};
+use pz_sim::pz_term_simulator::{Edition, Limits};
 
 /// The most bytes that a model may have.
 pub const MODEL_LIMIT: usize = 8_388_608;

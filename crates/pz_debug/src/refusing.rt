@@ -5,8 +5,8 @@ ghost use Rattle.pz_debug.specs.devices.Debugging.{SaysRefusal};
 use crate::DebugStatus;
 use crate::printing::say_made;
 use pz_io::{ReadError, Sink};
+use pz_run_lines::pz_run_reading::ReadModelError;
 use pz_run_lines::{model_refused_line, read_fault_line, too_long_line};
-use pz_run_reading::ReadModelError;
 use std::alloc::Global;
 
 /// Says why a file was not read.

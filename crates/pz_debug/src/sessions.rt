@@ -1,10 +1,10 @@
 // A session on a model.
 ghost use Rattle.std.specs.Prelude.{◌≡◌, ◌≤◌, ◌<◌, ◌^◌, [], length, IfOk};
-ghost use Rattle.pz_classes.specs.CheckedView.{checked_model};
-ghost use Rattle.pz_classes.specs.Soundness.{IsSound};
+ghost use Rattle.pz_bind.specs.pz_classes.CheckedView.{checked_model};
+ghost use Rattle.pz_bind.specs.pz_classes_rules.Soundness.{IsSound};
 ghost use Rattle.pz_classes_openings.specs.OpeningRules.{Opens};
-ghost use Rattle.pz_syntax.specs.Classes.{ModelTree};
-ghost use Rattle.pz_term_simulator.specs.Simulations.{Starts, setting_in};
+ghost use Rattle.pz_bind.specs.pz_syntax.Classes.{ModelTree};
+ghost use Rattle.pz_sim.specs.pz_term_simulator.Simulations.{Starts, setting_in};
 ghost use Rattle.pz_debug_session.specs.Sessions.{steps_in, stands_in};
 ghost use Rattle.pz_debug_replies.specs.Replying.{IsAt};
 ghost use Rattle.pz_debug.specs.Output.{setting_for, PrintsSession};
@@ -13,7 +13,7 @@ ghost use Rattle.pz_debug.specs.devices.Saying.{Says, Answers};
 use crate::DebugStatus;
 use crate::limits::session_limits;
 use pz_bind::Net;
-use pz_classes::Checked;
+use pz_bind::pz_classes::Checked;
 use pz_debug_replies::reply_all;
 use pz_debug_session::{Engine, Session};
 use pz_io::Sink;

@@ -1,10 +1,10 @@
 ghost use Rattle.std.specs.Prelude.{◌≡◌, IfOk, true};
-ghost use Rattle.pz_classes.specs.CheckedView.{checked_model};
+ghost use Rattle.pz_bind.specs.pz_classes.CheckedView.{checked_model};
 ghost use Rattle.pz_bind.specs.devices.Nets.{IsNet};
 
 use pz_ast::copy_model;
 use pz_bind::Net;
-use pz_classes::{BuildError, Checked, Classes};
+use pz_bind::pz_classes::{BuildError, Checked, Classes};
 use std::alloc::{AllocError, Global};
 
 /// The same model, checked: it is sound as well, and its classes are built again. Takes a time that is

@@ -11,7 +11,7 @@ use Rattle.pz_debug_commands.specs.Lines.{BeginsWithLine, ended, last}
 use Rattle.pz_debug_commands.specs.Texts as texts
 use Rattle.pz_debug_commands.specs.Texts.{BeginsWithCommand, AreCommands}
 use Rattle.pz_debug_session.specs.declared.step.Step.{Step}
-use Rattle.pz_classes.specs.Soundness.{IsSound}
+use Rattle.pz_rules.specs.pz_classes_rules.Soundness.{IsSound}
 use Rattle.pz_debug_session.specs.Steps.{StandsAfter}
 use Rattle.pz_debug_replies.specs.Replies.{Replies}
 use Rattle.pz_debug_replies.specs.Sessions.{RepliesAll, none, more}

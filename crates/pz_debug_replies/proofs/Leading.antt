@@ -1,6 +1,6 @@
 -- The steps that a reply leaves lead somewhere.
 use Rattle.std.proofs.Common.{ℕ, List, [], ◌∷◌, ◌++◌, Option}
-use Rattle.pz_classes.specs.Soundness.{IsSound}
+use Rattle.pz_rules.specs.pz_classes_rules.Soundness.{IsSound}
 use Rattle.pz_rules.specs.Settings.{Setting}
 use Rattle.pz_term_simulator.specs.Simulations.{Simulation}
 use Rattle.pz_debug_commands.specs.Commands.{Command}

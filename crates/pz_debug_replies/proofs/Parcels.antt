@@ -1,21 +1,21 @@
 -- The value of a variable has a parcel, in every state: it could be sent.
 use Rattle.std.proofs.Common.{◌≡◌, ℕ, List, [], ◌∷◌, refl, arith}
-use Rattle.pz_syntax.specs.declared.tokens.Pos.{Pos}
-use Rattle.pz_syntax.specs.declared.names.Id.{Id}
-use Rattle.pz_syntax.specs.Classes.{ModelTree}
-use Rattle.pz_syntax.specs.Expressions.{Part, left_out, written, variable as read, none, more}
-use Rattle.pz_syntax.specs.Statements.{send}
-use Rattle.pz_value.specs.declared.value.ClassId.{ClassId}
-use Rattle.pz_value.specs.declared.value.Value.{Value}
+use Rattle.pz_classes_code.specs.pz_syntax.declared.tokens.Pos.{Pos}
+use Rattle.pz_classes_code.specs.pz_syntax.declared.names.Id.{Id}
+use Rattle.pz_classes_code.specs.pz_syntax.Classes.{ModelTree}
+use Rattle.pz_classes_code.specs.pz_syntax.Expressions.{Part, left_out, written, variable as read, none, more}
+use Rattle.pz_classes_code.specs.pz_syntax.Statements.{send}
+use Rattle.pz_classes_code.specs.pz_value.declared.value.ClassId.{ClassId}
+use Rattle.pz_classes_code.specs.pz_value.declared.value.Value.{Value}
 use Rattle.pz_classes_code.specs.declared.slot.Slot.{Slot}
 use Rattle.pz_classes_code.specs.declared.slot.Slot.TheVariants.{Shared}
-use Rattle.pz_state.specs.States.{StateView, variable}
-use Rattle.pz_copy.specs.Parcels.{ParcelView}
-use Rattle.pz_copy.specs.Packing.{IsParcelOf}
-use Rattle.pz_eval_rules.specs.declared.outcome.Listed.TheVariants as listed
-use Rattle.pz_eval_rules.specs.Evaluation.{a_variable, no_argument, an_argument}
-use Rattle.pz_eval_rules.specs.Outcomes.{outside, all_values}
-use Rattle.pz_eval_rules.specs.Answers.{gives}
+use Rattle.pz_rules.specs.pz_state.States.{StateView, variable}
+use Rattle.pz_rules.specs.pz_copy.Parcels.{ParcelView}
+use Rattle.pz_rules.specs.pz_copy.Packing.{IsParcelOf}
+use Rattle.pz_rules.specs.pz_eval_rules.declared.outcome.Listed.TheVariants as listed
+use Rattle.pz_rules.specs.pz_eval_rules.Evaluation.{a_variable, no_argument, an_argument}
+use Rattle.pz_rules.specs.pz_eval_rules.Outcomes.{outside, all_values}
+use Rattle.pz_rules.specs.pz_eval_rules.Answers.{gives}
 use Rattle.pz_rules.specs.declared.limits.Edition.TheVariants.{Two}
 use Rattle.pz_rules.specs.Terms.{Term, leaf}
 use Rattle.pz_rules.specs.Settings.{Context}

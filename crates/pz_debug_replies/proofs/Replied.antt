@@ -8,7 +8,7 @@ use Rattle.pz_io.specs.Outside.{SinkState}
 use Rattle.pz_io.specs.declared.writing.Halt.{Halt}
 use Rattle.pz_io.specs.declared.writing.Halt.TheVariants.{NoMemory}
 use Rattle.pz_io.specs.Writing.{Wrote}
-use Rattle.pz_classes.specs.Soundness.{IsSound}
+use Rattle.pz_rules.specs.pz_classes_rules.Soundness.{IsSound}
 use Rattle.pz_classes_openings.specs.OpeningRules.{Opens}
 use Rattle.pz_rules.specs.declared.limits.Edition.TheVariants.{Two}
 use Rattle.pz_rules.specs.declared.action.Action.{Action}
@@ -16,8 +16,8 @@ use Rattle.pz_rules.specs.declared.moment.Moment.{Moment}
 use Rattle.pz_rules.specs.declared.moment.Moment.TheVariants.{Actions, Time, Finished, Deadlock, Faulty, Stopped, Broken}
 use Rattle.pz_rules.specs.Settings.{Setting}
 use Rattle.pz_trace.specs.Lines.{action_line, time_line}
-use Rattle.pz_copy.specs.Parcels.{ParcelView}
-use Rattle.pz_bind.specs.Nest.{processes}
+use Rattle.pz_rules.specs.pz_copy.Parcels.{ParcelView}
+use Rattle.pz_rules.specs.pz_bind_rules.Nest.{processes}
 use Rattle.pz_rules.specs.Configurations.{Config}
 use Rattle.pz_rules.specs.Runs.{Standing}
 use Rattle.pz_term_simulator.specs.Shown.{IsShown, CanShow}

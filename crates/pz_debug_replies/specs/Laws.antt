@@ -1,6 +1,6 @@
 -- Laws of the text of sessions.
 use Rattle.std.specs.Prelude.{◌≡◌, ℕ, List, Option}
-use Rattle.pz_classes.specs.Soundness.{IsSound}
+use Rattle.pz_rules.specs.pz_classes_rules.Soundness.{IsSound}
 use Rattle.pz_term_simulator.specs.Simulations.{Simulation}
 use Rattle.pz_rules.specs.Settings.{Setting}
 use Rattle.pz_debug_session.specs.declared.step.Step.{Step}

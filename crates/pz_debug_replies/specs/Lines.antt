@@ -1,10 +1,10 @@
 -- The lines that a session prints beside those of traces.
 use Rattle.std.specs.Prelude.{ℕ, ◌+◌, List, [], ◌∷◌, ◌++◌, codes}
 use Rattle.std.specs.Fmt.{decimal}
-use Rattle.pz_syntax.specs.Classes.{ModelTree}
-use Rattle.pz_classes.specs.Tables.{class_names}
-use Rattle.pz_copy.specs.Parcels.{ParcelView}
-use Rattle.pz_copy.specs.ParcelText.{parcel_text}
+use Rattle.pz_classes_code.specs.pz_syntax.Classes.{ModelTree}
+use Rattle.pz_rules.specs.pz_classes_rules.ClassNames.{class_names}
+use Rattle.pz_rules.specs.pz_copy.Parcels.{ParcelView}
+use Rattle.pz_rules.specs.pz_copy.ParcelText.{parcel_text}
 use Rattle.pz_rules.specs.declared.action.Action.{Action}
 use Rattle.pz_trace.specs.Labels.{label}
 use Rattle.pz_trace.specs.Lines.{newline}

@@ -1,6 +1,6 @@
 -- What each command prints, and the steps that are taken once it is done.
 use Rattle.std.specs.Prelude.{◌≡◌, ◌≤◌, ◌<◌, ◌-◌, ℕ, List, [], ◌∷◌, ◌++◌, length, take, Option, Some, None}
-use Rattle.pz_copy.specs.Parcels.{ParcelView}
+use Rattle.pz_rules.specs.pz_copy.Parcels.{ParcelView}
 use Rattle.pz_rules.specs.declared.action.Action.{Action}
 use Rattle.pz_rules.specs.declared.moment.Moment.{Moment}
 use Rattle.pz_rules.specs.declared.moment.Moment.TheVariants.{Actions, Time, Finished, Deadlock, Faulty, Stopped}

@@ -2,11 +2,11 @@
 use Rattle.std.specs.Prelude.{◌≡◌, ◌<◌, ℕ, List, Some, slice_get}
 use Rattle.pz_classes_code.specs.Places.{place_in}
 use Rattle.std.specs.Str.{bytes_eq}
-use Rattle.pz_syntax.specs.Classes.{ModelTree}
-use Rattle.pz_classes.specs.Members.{variables, spelled}
+use Rattle.pz_classes_code.specs.pz_syntax.Classes.{ModelTree}
+use Rattle.pz_rules.specs.pz_classes_rules.Members.{variables, spelled}
 use Rattle.pz_bind_levels.specs.Places.{Address}
-use Rattle.pz_bind.specs.Nest.{processes, class_at}
-use Rattle.pz_bind.specs.Names.{path}
+use Rattle.pz_rules.specs.pz_bind_rules.Nest.{processes, class_at}
+use Rattle.pz_rules.specs.pz_bind_rules.Names.{path}
 
 -- Variable v of process i: the process is the first with this path, and its class has a variable of
 -- this name at this place, the parameters and the variables of its ancestors included.

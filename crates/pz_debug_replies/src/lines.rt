@@ -1,15 +1,15 @@
 // The lines of a session that are none of a trace. The only error is want of memory.
 
 ghost use Rattle.std.specs.Prelude.{◌≡◌, IfOk};
-ghost use Rattle.pz_classes.specs.CheckedView.{checked_model};
+ghost use Rattle.pz_bind.specs.pz_classes.CheckedView.{checked_model};
 ghost use Rattle.pz_bind.specs.devices.Nets.{IsNet};
 ghost use Rattle.pz_trace.specs.Named.{IsNamed};
 ghost use Rattle.pz_debug_replies.specs.Lines as lines;
 
 use crate::names::class_names;
 use pz_bind::Net;
-use pz_classes::Checked;
-use pz_copy::Parcel;
+use pz_bind::pz_classes::Checked;
+use pz_rules::pz_copy::Parcel;
 use pz_term_simulator::Action;
 use pz_trace::label;
 use std::alloc::{AllocError, Global};

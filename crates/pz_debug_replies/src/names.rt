@@ -3,21 +3,21 @@
 ghost use Rattle.std.specs.Prelude.{◌≡◌, ◌<◌, ℕ, length, MatchOption, Some, slice_get, IfSome};
 ghost use Rattle.pz_classes_code.specs.Places.{place_in};
 ghost use Rattle.std.specs.Str.{bytes_eq};
-ghost use Rattle.pz_syntax.specs.Classes.{ModelTree};
-ghost use Rattle.pz_classes.specs.CheckedView.{checked_model};
-ghost use Rattle.pz_classes.specs.Members.{variables, spelled};
-ghost use Rattle.pz_classes.specs.Tables as tables;
+ghost use Rattle.pz_classes_code.specs.pz_syntax.Classes.{ModelTree};
+ghost use Rattle.pz_bind.specs.pz_classes.CheckedView.{checked_model};
+ghost use Rattle.pz_rules.specs.pz_classes_rules.Members.{variables, spelled};
+ghost use Rattle.pz_rules.specs.pz_classes_rules.ClassNames as tables;
 ghost use Rattle.pz_bind_levels.specs.Places.{Address};
-ghost use Rattle.pz_bind.specs.Nest.{processes, class_at};
+ghost use Rattle.pz_rules.specs.pz_bind_rules.Nest.{processes, class_at};
 ghost use Rattle.pz_bind.specs.NetView.{HasProcess};
 ghost use Rattle.pz_bind.specs.devices.Nets.{IsNet};
 ghost use Rattle.pz_trace.specs.Labels.{path_of};
 ghost use Rattle.pz_debug_replies.specs.devices.Searching.{IsFirst, IsOfNone};
 
 use pz_bind::Net;
-use pz_classes::Checked;
+use pz_bind::pz_classes::Checked;
 use pz_classes_code::NameFront;
-use pz_value::Text;
+use pz_classes_code::pz_value::Text;
 
 /// The names of the classes, each at its number.
 pub(crate) fn class_names(checked: &Checked) -> &[Text]

@@ -1,5 +1,5 @@
 ghost use Rattle.std.specs.Prelude.{◌≡◌, IfOk};
-ghost use Rattle.pz_classes.specs.CheckedView.{checked_model};
+ghost use Rattle.pz_bind.specs.pz_classes.CheckedView.{checked_model};
 ghost use Rattle.pz_classes_openings.specs.OpeningRules.{Opens};
 ghost use Rattle.pz_bind.specs.devices.Nets.{IsNet};
 ghost use Rattle.pz_rules.specs.declared.limits.Edition.TheVariants.{Two};
@@ -7,7 +7,7 @@ ghost use Rattle.pz_term_processes.specs.Standing.{setting_of};
 ghost use Rattle.pz_term_simulator.specs.Simulations.{Starts};
 
 use pz_bind::Net;
-use pz_classes::Checked;
+use pz_bind::pz_classes::Checked;
 use pz_term_simulator::{Limits, Simulator};
 use std::alloc::{AllocError, Global};
 

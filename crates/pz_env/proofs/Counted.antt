@@ -5,9 +5,9 @@ use Rattle.std.specs.Option.{option_map_or}
 use Rattle.std.proofs.lemmas.Bool.{leb-true, le-leb, ltb-true, lt-ltb}
 use Rattle.pz_syntax.specs.declared.clusters.Instance.{Instance}
 use Rattle.pz_syntax.specs.Classes.{DeclTree, data_class, process_class, cluster_class, system, ModelTree}
-use Rattle.pz_classes.specs.Kinds.{is_process}
-use Rattle.pz_classes.specs.Instances.{instances, channels, instance_class}
-use Rattle.pz_classes.specs.SizeRules.{Totals, nothing, plus, all_of, one_of, expanded}
+use Rattle.pz_classes.specs.pz_classes_rules.Kinds.{is_process}
+use Rattle.pz_classes.specs.pz_classes_rules.Instances.{instances, channels, instance_class}
+use Rattle.pz_classes.specs.pz_classes_rules.SizeRules.{Totals, nothing, plus, all_of, one_of, expanded}
 use Rattle.pz_env.specs.declared.room.Held.{Held}
 use Rattle.pz_env.specs.declared.room.Counting.{Counting}
 use Rattle.pz_env.specs.devices.Counting.{is_above, is_over, size_of, held_by, held, sum_of, count_in, steps, steps_of, opened, IsLeft}

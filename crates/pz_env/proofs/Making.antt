@@ -8,7 +8,7 @@ use Rattle.pz_syntax.specs.declared.clusters.Channel.{Channel}
 use Rattle.pz_syntax.specs.declared.tokens.Pos.{Pos}
 use Rattle.pz_syntax.specs.Statements.{Statement, Statements, then}
 use Rattle.pz_syntax.specs.StatementView.{sequence_of}
-use Rattle.pz_env_script.specs.declared.entry.Entry.{Entry}
+use Rattle.pz_env_tree.specs.pz_env_script.declared.entry.Entry.{Entry}
 use Rattle.pz_env_tree.specs.pz_env_rules.Environment.{Line, lines_of}
 use Rattle.pz_env_tree.specs.pz_env_rules.Ends.{is_same_end, first_mentions}
 use Rattle.pz_env_tree.specs.Names.{end_number, port_of}

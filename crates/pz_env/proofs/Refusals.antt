@@ -9,11 +9,11 @@ use Rattle.std.proofs.lemmas.Slice.Eq.{bytes_eq-Decides}
 use Rattle.pz_syntax.specs.declared.clusters.Instance.{Instance}
 use Rattle.pz_syntax.specs.declared.clusters.SystemDecl.{SystemDecl}
 use Rattle.pz_syntax.specs.Classes.{ModelTree}
-use Rattle.pz_classes.specs.Numbers.{class}
-use Rattle.pz_classes.specs.Members.{ports, spelled}
-use Rattle.pz_classes.specs.SizeRules.{systems, system_size}
-use Rattle.pz_bind.specs.Nest.{class_of, instances_at}
-use Rattle.pz_env_script.specs.declared.entry.Entry.{Entry}
+use Rattle.pz_classes.specs.pz_classes_rules.Numbers.{class}
+use Rattle.pz_classes.specs.pz_classes_rules.Members.{ports, spelled}
+use Rattle.pz_classes.specs.pz_classes_rules.SizeRules.{systems, system_size}
+use Rattle.pz_env_tree.specs.pz_bind_rules.Nest.{class_of, instances_at}
+use Rattle.pz_env_tree.specs.pz_env_script.declared.entry.Entry.{Entry}
 use Rattle.pz_env_tree.specs.Names.{class_name}
 use Rattle.pz_env_tree.specs.Refusals.{IsFirstRefused}
 use Rattle.pz_env_tree.specs.Laws.{RefusalsAreComputed}

@@ -11,9 +11,9 @@ use Rattle.pz_syntax.specs.declared.names.Id.{Id}
 use Rattle.pz_syntax.specs.declared.clusters.ChannelEnd.{ChannelEnd}
 use Rattle.pz_syntax.specs.declared.clusters.ChannelEnd.TheVariants.{Inner}
 use Rattle.pz_syntax.specs.Classes.{DeclTree, ModelTree}
-use Rattle.pz_classes.specs.Numbers.{declaration}
-use Rattle.pz_bind.specs.Nest.{is_system, first_system}
-use Rattle.pz_bind.specs.Connections.{is_inner}
+use Rattle.pz_classes.specs.pz_classes_rules.Numbers.{declaration}
+use Rattle.pz_env_tree.specs.pz_bind_rules.Nest.{is_system, first_system}
+use Rattle.pz_env_tree.specs.pz_bind_rules.Connections.{is_inner}
 use Rattle.pz_env.specs.declared.ends.End.{End}
 use Rattle.pz_env.specs.devices.Standing.{first_of}
 

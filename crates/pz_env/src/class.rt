@@ -16,8 +16,8 @@ use crate::ends::EndSet;
 use crate::messages::{SaidSet, add_message};
 use crate::names::{CLASS, FIRST, KIND, METHOD, VARIABLE, id, port_id};
 use crate::statements::{exchange, waiting};
-use pz_env_script::Entry;
-use pz_items::Items;
+use pz_env_tree::pz_env_script::Entry;
+use pz_syntax::pz_items::Items;
 use pz_syntax::{Id, Message, Pos, ProcessClass, ProcessMethod, Start, Stmt, VarGroup};
 use std::alloc::{AllocError, Global};
 

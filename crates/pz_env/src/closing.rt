@@ -21,8 +21,8 @@ use crate::names::{CLASS, FIRST, INSTANCE, id, id_of, port_id};
 use crate::refusing::{entries_of, refused_line};
 use pz_ast::copy_model;
 use pz_classes::Classes;
-use pz_env_script::{Entry, Script};
-use pz_items::Items;
+use pz_env_tree::pz_env_script::{Entry, Script};
+use pz_syntax::pz_items::Items;
 use pz_syntax::{Channel, ChannelEnd, Decl, Instance, Model, Pos, SystemDecl};
 use std::alloc::{AllocError, Global};
 

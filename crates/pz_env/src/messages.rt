@@ -2,15 +2,15 @@
 
 ghost use Rattle.std.specs.Prelude.{◌≡◌, ◌++◌, ◌∷◌, [], not, length, if◌then◌else◌, IfOk, OnOk};
 ghost use Rattle.pz_syntax.specs.declared.tokens.Pos.{Pos};
-ghost use Rattle.pz_env_script.specs.Entries.{count_in};
+ghost use Rattle.pz_env_tree.specs.pz_env_script.Entries.{count_in};
 ghost use Rattle.pz_env_tree.specs.EnvironmentClass.{is_sent};
 ghost use Rattle.pz_env.specs.devices.Said.{said_in, said_by, said_by_entry, has_said, with_said};
 ghost use Rattle.pz_env.specs.devices.Making.{message_at};
 
 use crate::names::{KIND, id_list, id_of, port_id};
 use indexmap::IndexSet;
-use pz_env_script::{Entry, Transfer};
-use pz_items::Items;
+use pz_env_tree::pz_env_script::{Entry, Transfer};
+use pz_syntax::pz_items::Items;
 use pz_syntax::{Message, Pos};
 use std::alloc::{AllocError, Global};
 

@@ -5,7 +5,7 @@ ghost use Rattle.pz_env_tree.specs.Names.{port_name};
 ghost use Rattle.pz_env_tree.specs.EnvironmentClass.{unless_none};
 ghost use Rattle.pz_env.specs.devices.Making.{id_at};
 
-use pz_items::Items;
+use pz_syntax::pz_items::Items;
 use pz_syntax::{Id, Name, Pos};
 use std::alloc::{AllocError, Global};
 

@@ -4,7 +4,7 @@ ghost use Rattle.std.specs.Prelude.{◌≡◌, ◌≤◌, ◌||◌, ◌↔◌, �
 ghost use Rattle.std.specs.List.{list_any};
 ghost use Rattle.std.specs.Str.{bytes_eq};
 ghost use Rattle.pz_syntax.specs.ClassView.{model_view};
-ghost use Rattle.pz_classes.specs.Numbers.{class};
+ghost use Rattle.pz_classes.specs.pz_classes_rules.Numbers.{class};
 ghost use Rattle.pz_classes.specs.devices.Rows.{AreClasses};
 ghost use Rattle.pz_env_tree.specs.Names.{class_name, instance_name};
 ghost use Rattle.pz_env_tree.specs.Refusals.{IsFirstRefused};
@@ -17,7 +17,7 @@ use crate::names::{CLASS, INSTANCE};
 use crate::room::has_large_system;
 use crate::standing::{connected_ports, system_instances, system_ports};
 use pz_classes::Classes;
-use pz_env_script::{Entry, Script};
+use pz_env_tree::pz_env_script::{Entry, Script};
 use pz_syntax::{Instance, Model};
 use std::alloc::{AllocError, Global};
 

@@ -4,9 +4,9 @@ ghost use Rattle.std.specs.Prelude.{◌≡◌, ◌≤◌, ◌<◌, ◌+◌, ◌+
 ghost use Rattle.std.specs.Option.{option_map, option_copied};
 ghost use Rattle.std.specs.List.{list_any};
 ghost use Rattle.pz_syntax.specs.ClassView.{decl_view, model_view};
-ghost use Rattle.pz_classes.specs.Instances as spec;
-ghost use Rattle.pz_classes.specs.Kinds as kinds;
-ghost use Rattle.pz_classes.specs.SizeRules.{system_of, systems, system_size};
+ghost use Rattle.pz_classes.specs.pz_classes_rules.Instances as spec;
+ghost use Rattle.pz_classes.specs.pz_classes_rules.Kinds as kinds;
+ghost use Rattle.pz_classes.specs.pz_classes_rules.SizeRules.{system_of, systems, system_size};
 ghost use Rattle.pz_classes.specs.devices.Rows.{AreClasses};
 ghost use Rattle.pz_env.specs.devices.Counting.{held_by, held, opened, is_over, is_above, size_of};
 

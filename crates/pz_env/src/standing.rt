@@ -4,19 +4,19 @@ ghost use Rattle.std.specs.Prelude.{◌≡◌, ◌<◌, ◌||◌, [], length, ge
 ghost use Rattle.std.specs.List.{list_any};
 ghost use Rattle.std.specs.Option.{option_map, option_copied};
 ghost use Rattle.pz_syntax.specs.ClassView.{decl_view, model_view};
-ghost use Rattle.pz_classes.specs.Members as members;
-ghost use Rattle.pz_classes.specs.Members.{spelled};
+ghost use Rattle.pz_classes.specs.pz_classes_rules.Members as members;
+ghost use Rattle.pz_classes.specs.pz_classes_rules.Members.{spelled};
 ghost use Rattle.pz_classes.specs.devices.Rows.{AreClasses};
-ghost use Rattle.pz_bind.specs.Nest as nest;
-ghost use Rattle.pz_bind.specs.Connections.{is_inner};
+ghost use Rattle.pz_env_tree.specs.pz_bind_rules.Nest as nest;
+ghost use Rattle.pz_env_tree.specs.pz_bind_rules.Connections.{is_inner};
 ghost use Rattle.pz_env.specs.devices.Ends.{Named, ends_in, has_end};
 ghost use Rattle.pz_env.specs.devices.Standing.{first_of, is_port_of, is_port_at, is_port_in, is_in_channel, is_connected};
 
 use crate::ends::EndSet;
 use pz_classes::{Classes, channels_of, class_of_instance, instances_of};
 use pz_classes_code::NameFront;
+use pz_classes_code::pz_value::ClassId;
 use pz_syntax::{Channel, ChannelEnd, Decl, Instance, Model};
-use pz_value::ClassId;
 use std::alloc::{AllocError, Global};
 
 /// The declaration of the system, the first one if there are several.

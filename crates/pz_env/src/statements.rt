@@ -12,10 +12,10 @@ ghost use Rattle.pz_env_tree.specs.EnvironmentClass.{literal_of, literals, argum
 ghost use Rattle.pz_env.specs.devices.Making.{exchange_at, id_at};
 
 use crate::names::{VARIABLE, id_list, id_of};
-use pz_env_script::Transfer;
-use pz_items::{Boxed, Items, Shared, both};
+use pz_classes_code::pz_value::Value;
+use pz_env_tree::pz_env_script::Transfer;
+use pz_syntax::pz_items::{Boxed, Items, Shared, both};
 use pz_syntax::{Expr, ExprForm, Id, Literal, Name, Pos, Stmt, StmtForm};
-use pz_value::Value;
 use std::alloc::{AllocError, Global};
 
 /// The constant that stands for a value of a script. The only error is want of memory.

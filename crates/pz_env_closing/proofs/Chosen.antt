@@ -1,12 +1,12 @@
 -- A run that a policy chooses from the start of a model, whole.
 use Rattle.std.proofs.Common.{◌≡◌, List, refl}
-use Rattle.pz_rules.specs.Settings.{Setting}
-use Rattle.pz_rules.specs.Configurations.{Config}
-use Rattle.pz_rules.specs.Starting.{IsStart}
-use Rattle.pz_rules.specs.Runs.{Event, Standing, whole, stopped, Reaches, Ending, ended, deadlocked, troubled, halted, refused, Ends}
-use Rattle.pz_rules.specs.Runs as runs
-use Rattle.pz_rules.specs.ChosenRuns.{Policy, IsChosenRun}
-use Rattle.pz_rules.specs.Laws.{ChosenRunsAreRuns, IsRun}
+use Rattle.pz_run_playing.specs.pz_rules.Settings.{Setting}
+use Rattle.pz_run_playing.specs.pz_rules.Configurations.{Config}
+use Rattle.pz_run_playing.specs.pz_rules.Starting.{IsStart}
+use Rattle.pz_run_playing.specs.pz_rules.Runs.{Event, Standing, whole, stopped, Reaches, Ending, ended, deadlocked, troubled, halted, refused, Ends}
+use Rattle.pz_run_playing.specs.pz_rules.Runs as runs
+use Rattle.pz_run_playing.specs.pz_rules.ChosenRuns.{Policy, IsChosenRun}
+use Rattle.pz_run_playing.specs.pz_rules.Laws.{ChosenRunsAreRuns, IsRun}
 use Rattle.pz_run_playing.specs.Playing.{EndsAs, ChosenRun}
 
 as_it_stands : (setting : Setting) (c : Config) (standing : Standing) (ending : Ending) → Ends setting c standing ending → EndsAs standing ending

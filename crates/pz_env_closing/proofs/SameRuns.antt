@@ -1,23 +1,23 @@
 -- The runs of a closed model and the driven runs.
 use Rattle.std.proofs.Common.{◌≡◌, ◌∙◌, List, refl, sym, ap}
-use Rattle.pz_syntax.specs.Classes.{ModelTree}
-use Rattle.pz_rules.specs.declared.limits.Limits.{Limits}
-use Rattle.pz_rules.specs.Configurations.{Config}
-use Rattle.pz_rules.specs.Runs.{Event, Ending}
-use Rattle.pz_rules.specs.ChosenRuns.{Policy}
-use Rattle.pz_rules.specs.Laws.{ChosenRunsAreRuns}
-use Rattle.pz_classes.specs.Soundness.{IsSound}
+use Rattle.pz_classes.specs.pz_syntax.Classes.{ModelTree}
+use Rattle.pz_run_playing.specs.pz_rules.declared.limits.Limits.{Limits}
+use Rattle.pz_run_playing.specs.pz_rules.Configurations.{Config}
+use Rattle.pz_run_playing.specs.pz_rules.Runs.{Event, Ending}
+use Rattle.pz_run_playing.specs.pz_rules.ChosenRuns.{Policy}
+use Rattle.pz_run_playing.specs.pz_rules.Laws.{ChosenRunsAreRuns}
+use Rattle.pz_classes.specs.pz_classes_rules.Soundness.{IsSound}
 use Rattle.pz_run_playing.specs.RunText.{text_under}
 use Rattle.pz_run_playing.specs.Playing.{ChosenRun}
 use Rattle.pz_run_playing.specs.Laws.{HasOneRun}
-use Rattle.pz_env_script.specs.declared.entry.Entry.{Entry}
-use Rattle.pz_env_script.specs.Scripts.{IsWritten}
-use Rattle.pz_env_tree.specs.pz_env_rules.Joining.{driving}
-use Rattle.pz_env_tree.specs.pz_env_rules.Text.{drive_header}
-use Rattle.pz_env_tree.specs.ClosedTree.{closed_tree}
+use Rattle.pz_env_joined.specs.pz_env_script.declared.entry.Entry.{Entry}
+use Rattle.pz_env_joined.specs.pz_env_script.Scripts.{IsWritten}
+use Rattle.pz_env_joined.specs.pz_env_rules.Joining.{driving}
+use Rattle.pz_env_joined.specs.pz_env_rules.Text.{drive_header}
+use Rattle.pz_env_joined.specs.pz_env_tree.ClosedTree.{closed_tree}
 use Rattle.pz_env_sound.specs.MayClose.{MayClose}
-use Rattle.pz_env_mimics.specs.Closing.{MayDrive}
-use Rattle.pz_env_mimics.specs.Laws as mimics
+use Rattle.pz_env_joined.specs.pz_env_mimics.Closing.{MayDrive}
+use Rattle.pz_env_joined.specs.pz_env_mimics.Laws as mimics
 use Rattle.pz_env_joined.specs.Laws.{ClosedTreeCloses}
 use Rattle.pz_env_closing.specs.DrivenRuns.{ChosenDrivenRun}
 use Rattle.pz_env_closing.specs.Laws.{closed_setting, IsSameRun, ClosedRunsAreDriven, DrivenRunsAreClosed, OneDrivenEnding}

@@ -1,17 +1,17 @@
 -- The text of a driven run, and that of the run of the model that closes the system.
 use Rattle.std.proofs.Common.{◌≡◌, ◌∙◌, ℕ, List, [], ◌∷◌, ◌++◌, refl, sym, ap}
 use Rattle.std.specs.List.{flat_map}
-use Rattle.pz_syntax.specs.Classes.{ModelTree}
-use Rattle.pz_rules.specs.Runs.{Event, Ending, ended, deadlocked, troubled, halted, refused}
-use Rattle.pz_trace.specs.declared.ending.Ending.TheVariants.{End, Deadlock, Stop, Trouble}
-use Rattle.pz_trace.specs.TraceText as trace
+use Rattle.pz_classes.specs.pz_syntax.Classes.{ModelTree}
+use Rattle.pz_run_playing.specs.pz_rules.Runs.{Event, Ending, ended, deadlocked, troubled, halted, refused}
+use Rattle.pz_run_playing.specs.pz_trace.declared.ending.Ending.TheVariants.{End, Deadlock, Stop, Trouble}
+use Rattle.pz_run_playing.specs.pz_trace.TraceText as trace
 use Rattle.pz_run_playing.specs.Endings as playing
 use Rattle.pz_run_playing.specs.RunText.{text_under}
-use Rattle.pz_env_tree.specs.pz_env_rules.Joining.{Driving}
-use Rattle.pz_env_tree.specs.pz_env_rules.Text.{drive_header, event_line}
-use Rattle.pz_env_mimics.specs.Environments.{HasEnvironment}
-use Rattle.pz_env_mimics.specs.Closing.{SameEvents}
-use Rattle.pz_env_mimics.specs.Laws.{EventLinesAreSame, EndLinesAreSame}
+use Rattle.pz_env_joined.specs.pz_env_rules.Joining.{Driving}
+use Rattle.pz_env_joined.specs.pz_env_rules.Text.{drive_header, event_line}
+use Rattle.pz_env_joined.specs.pz_env_mimics.Environments.{HasEnvironment}
+use Rattle.pz_env_joined.specs.pz_env_mimics.Closing.{SameEvents}
+use Rattle.pz_env_joined.specs.pz_env_mimics.Laws.{EventLinesAreSame, EndLinesAreSame}
 use Rattle.pz_env_closing.specs.DrivenRuns.{last_line, driven_text}
 
 module _ (each_line : EventLinesAreSame) (end_line : EndLinesAreSame) (g : Driving) (n : ModelTree) (environment : HasEnvironment g n) where

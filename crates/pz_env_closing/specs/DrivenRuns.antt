@@ -3,14 +3,14 @@
 use Rattle.std.specs.Prelude.{ℕ, List, ◌++◌, codes}
 use Rattle.std.specs.List.{flat_map}
 use Rattle.std.specs.Fmt.{decimal}
-use Rattle.pz_rules.specs.Runs.{Event, Ending, ended, deadlocked, troubled, halted, refused}
-use Rattle.pz_rules.specs.ChosenRuns.{Policy}
-use Rattle.pz_trace.specs.declared.ending.Ending.TheVariants.{End, Deadlock, Stop, Trouble}
-use Rattle.pz_trace.specs.Lines.{newline}
-use Rattle.pz_env_tree.specs.pz_env_rules.Joining.{Driving}
-use Rattle.pz_env_tree.specs.pz_env_rules.Driven.{Driven, IsDrivenStart}
-use Rattle.pz_env_tree.specs.pz_env_rules.ChosenRuns.{IsChosenDrivenRun}
-use Rattle.pz_env_tree.specs.pz_env_rules.Text.{drive_header, event_line, end_words}
+use Rattle.pz_run_playing.specs.pz_rules.Runs.{Event, Ending, ended, deadlocked, troubled, halted, refused}
+use Rattle.pz_run_playing.specs.pz_rules.ChosenRuns.{Policy}
+use Rattle.pz_run_playing.specs.pz_trace.declared.ending.Ending.TheVariants.{End, Deadlock, Stop, Trouble}
+use Rattle.pz_run_playing.specs.pz_trace.Lines.{newline}
+use Rattle.pz_env_joined.specs.pz_env_rules.Joining.{Driving}
+use Rattle.pz_env_joined.specs.pz_env_rules.Driven.{Driven, IsDrivenStart}
+use Rattle.pz_env_joined.specs.pz_env_rules.ChosenRuns.{IsChosenDrivenRun}
+use Rattle.pz_env_joined.specs.pz_env_rules.Text.{drive_header, event_line, end_words}
 
 -- from the start of a system and a script on
 pub record ChosenDrivenRun (g : Driving) (policy : Policy) : Type 0 where

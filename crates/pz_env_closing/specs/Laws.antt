@@ -1,19 +1,19 @@
 -- The runs of a closed model are the driven runs of the system and the script: a policy chooses the same, with
 -- the same ending and, behind the header of driven runs, the same text.
 use Rattle.std.specs.Prelude.{◌≡◌, List}
-use Rattle.pz_syntax.specs.Classes.{ModelTree}
-use Rattle.pz_rules.specs.declared.limits.Limits.{Limits}
-use Rattle.pz_rules.specs.Settings.{Setting}
-use Rattle.pz_rules.specs.ChosenRuns.{Policy}
+use Rattle.pz_classes.specs.pz_syntax.Classes.{ModelTree}
+use Rattle.pz_run_playing.specs.pz_rules.declared.limits.Limits.{Limits}
+use Rattle.pz_run_playing.specs.pz_rules.Settings.{Setting}
+use Rattle.pz_run_playing.specs.pz_rules.ChosenRuns.{Policy}
 use Rattle.pz_run_playing.specs.RunText.{text_under}
 use Rattle.pz_run_playing.specs.Playing.{ChosenRun}
-use Rattle.pz_env_script.specs.declared.entry.Entry.{Entry}
-use Rattle.pz_env_script.specs.Scripts.{IsWritten}
-use Rattle.pz_env_tree.specs.pz_env_rules.Joining.{driving}
-use Rattle.pz_env_tree.specs.pz_env_rules.Text.{drive_header}
-use Rattle.pz_env_tree.specs.ClosedTree.{closed_tree}
+use Rattle.pz_env_joined.specs.pz_env_script.declared.entry.Entry.{Entry}
+use Rattle.pz_env_joined.specs.pz_env_script.Scripts.{IsWritten}
+use Rattle.pz_env_joined.specs.pz_env_rules.Joining.{driving}
+use Rattle.pz_env_joined.specs.pz_env_rules.Text.{drive_header}
+use Rattle.pz_env_joined.specs.pz_env_tree.ClosedTree.{closed_tree}
 use Rattle.pz_env_sound.specs.MayClose.{MayClose}
-use Rattle.pz_env_mimics.specs.Closing.{MayDrive}
+use Rattle.pz_env_joined.specs.pz_env_mimics.Closing.{MayDrive}
 use Rattle.pz_env_closing.specs.DrivenRuns.{ChosenDrivenRun, driven_text}
 
 abbrev pub closed_setting : ModelTree → List Entry → Limits → Setting

@@ -1,20 +1,20 @@
 // A model that is closed by a script, with its classes.
 
 ghost use Rattle.std.specs.Prelude.{◌≡◌, ◌<◌, ◌^◌, ℕ, length, IfOk, IfErr};
-ghost use Rattle.pz_syntax.specs.ClassView.{model_view};
-ghost use Rattle.pz_syntax.specs.ModelText.{text, HasFewMarks};
-ghost use Rattle.pz_classes.specs.Soundness.{IsSound};
+ghost use Rattle.pz_classes.specs.pz_syntax.ClassView.{model_view};
+ghost use Rattle.pz_classes.specs.pz_syntax.ModelText.{text, HasFewMarks};
+ghost use Rattle.pz_classes.specs.pz_classes_rules.Soundness.{IsSound};
 ghost use Rattle.pz_classes.specs.CheckedView.{checked_model};
 ghost use Rattle.pz_classes.specs.devices.Rows.{AreClasses};
 ghost use Rattle.pz_classes_openings.specs.OpeningRules.{Opens};
-ghost use Rattle.pz_env_tree.specs.Refusals.{IsFirstRefused};
-ghost use Rattle.pz_env_tree.specs.ClosedTree.{closed_tree};
+ghost use Rattle.pz_env_joined.specs.pz_env_tree.Refusals.{IsFirstRefused};
+ghost use Rattle.pz_env_joined.specs.pz_env_tree.ClosedTree.{closed_tree};
 ghost use Rattle.pz_env.specs.declared.error.CloseError.TheVariants.{Refused};
 
+use pz_classes::pz_syntax::Model;
 use pz_classes::{BuildError, Checked, Classes};
 use pz_env::{CloseError, close};
-use pz_env_script::Script;
-use pz_syntax::Model;
+use pz_env_joined::pz_env_script::Script;
 use std::alloc::{AllocError, Global};
 use std::mem::drop;
 

@@ -8,8 +8,8 @@ pub fn closed_runs_are_driven()
     ensures { ClosedRunsAreDriven }
 {
     pz_env_joined::laws::closed_tree_closes();
-    pz_env_mimics::laws::runs_are_the_same();
-    pz_env_mimics::laws::lines_are_the_same();
+    pz_env_joined::pz_env_mimics::laws::runs_are_the_same();
+    pz_env_joined::pz_env_mimics::laws::lines_are_the_same();
 }
 
 /// And a driven run that is chosen is a run of the closed model.
@@ -17,9 +17,9 @@ pub fn driven_runs_are_closed()
     ensures { DrivenRunsAreClosed }
 {
     pz_env_joined::laws::closed_tree_closes();
-    pz_env_mimics::laws::runs_are_the_same();
-    pz_env_mimics::laws::lines_are_the_same();
-    pz_rules::laws::one_chosen_run();
+    pz_env_joined::pz_env_mimics::laws::runs_are_the_same();
+    pz_env_joined::pz_env_mimics::laws::lines_are_the_same();
+    pz_run_playing::pz_rules::laws::one_chosen_run();
 }
 
 /// A policy chooses one end of driven runs.

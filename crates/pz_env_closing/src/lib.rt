@@ -9,3 +9,5 @@ pub use closing::close_checked;
 
 // What stands on this names these too, and so has them from here.
 pub use pz_env::{CloseError, drive_header};
+pub use pz_env_joined::pz_env_script;
+pub use pz_run_playing;

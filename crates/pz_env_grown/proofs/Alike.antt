@@ -1,9 +1,9 @@
 -- What is the same of a model and of one that has grown out of it.
 use Rattle.std.proofs.Common.{◌≡◌, refl, sym, ap, ◌∙◌, ℕ, Option, Some}
 use Rattle.std.specs.Option.{option_map_or}
-use Rattle.pz_syntax.specs.declared.clusters.SystemDecl.{SystemDecl}
-use Rattle.pz_syntax.specs.Classes.{ProcessClassTree, DeclTree, process_class, system, ModelTree}
-use Rattle.pz_classes.specs.Numbers.{declaration}
+use Rattle.pz_bind_rules.specs.pz_syntax.declared.clusters.SystemDecl.{SystemDecl}
+use Rattle.pz_bind_rules.specs.pz_syntax.Classes.{ProcessClassTree, DeclTree, process_class, system, ModelTree}
+use Rattle.pz_bind_rules.specs.pz_classes_rules.Numbers.{declaration}
 use Rattle.pz_env_grown.specs.Growth.{Alike, same, systems, Both, old, nothing, new, Grown}
 
 -- what is the same of every system is the same of what is alike

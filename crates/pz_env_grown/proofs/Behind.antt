@@ -1,8 +1,8 @@
 -- What stands at which number, and under which name, in declarations that have changed and have others behind them.
 use Rattle.std.proofs.Common.{◌≡◌, refl, sym, ap, ◌∙◌, ℕ, zero, suc, ◌+◌, Bool, true, false, List, [], ◌∷◌, ◌++◌, map, length, Some, None, slice_get, arith}
-use Rattle.pz_syntax.specs.Classes.{ProcessClassTree, DeclTree, process_class, ModelTree}
-use Rattle.pz_classes.specs.Numbers.{is_named, declaration, first_named}
-use Rattle.pz_bind.specs.Nest.{is_system, first_system}
+use Rattle.pz_bind_rules.specs.pz_syntax.Classes.{ProcessClassTree, DeclTree, process_class, ModelTree}
+use Rattle.pz_bind_rules.specs.pz_classes_rules.Numbers.{is_named, declaration, first_named}
+use Rattle.pz_bind_rules.specs.Nest.{is_system, first_system}
 use Rattle.pz_env_grown.specs.Growth.{Alike, Both, old, nothing, new, Grown}
 use Rattle.pz_env_grown.proofs.Numbers.{none_some, some_same}
 use Rattle.pz_env_grown.proofs.Alike.{of_alike}

@@ -2,15 +2,15 @@
 -- had, and in what has grown out of it the same ancestors.
 use Rattle.std.proofs.Common.{◌≡◌, refl, sym, ap, ◌∙◌, ℕ, suc, Bool, true, false, List, length, Option, Some, None, arith}
 use Rattle.std.specs.Option.{option_map_or, option_and_then}
-use Rattle.pz_syntax.specs.declared.names.Id.{Id}
-use Rattle.pz_syntax.specs.Classes.{DeclTree, ModelTree}
-use Rattle.pz_check_violations.specs.Order.{violation}
-use Rattle.pz_classes_code.specs.ReservedNames.{is_primitive, is_unsupported}
-use Rattle.pz_classes.specs.Numbers.{declaration, class}
-use Rattle.pz_classes.specs.Ancestors.{extended, parent_named, parent_of, parent, ancestors}
-use Rattle.pz_classes.specs.Reached.{AncestorsAreReached}
-use Rattle.pz_classes.specs.Violations.{is_of_sort, same_sort, breaks_c2, c2}
-use Rattle.pz_classes.specs.Soundness.{IsSound}
+use Rattle.pz_bind_rules.specs.pz_syntax.declared.names.Id.{Id}
+use Rattle.pz_bind_rules.specs.pz_syntax.Classes.{DeclTree, ModelTree}
+use Rattle.pz_bind_rules.specs.pz_check_violations.Order.{violation}
+use Rattle.pz_bind_rules.specs.pz_classes_code.ReservedNames.{is_primitive, is_unsupported}
+use Rattle.pz_bind_rules.specs.pz_classes_rules.Numbers.{declaration, class}
+use Rattle.pz_bind_rules.specs.pz_classes_rules.Ancestors.{extended, parent_named, parent_of, parent, ancestors}
+use Rattle.pz_bind_rules.specs.pz_classes_rules.Reached.{AncestorsAreReached}
+use Rattle.pz_bind_rules.specs.pz_classes_rules.Violations.{is_of_sort, same_sort, breaks_c2, c2}
+use Rattle.pz_bind_rules.specs.pz_classes_rules.Soundness.{IsSound}
 use Rattle.pz_env_grown.specs.Growth.{Both, old, nothing, new, Grown}
 use Rattle.pz_env_grown.proofs.Alike.{of_alike}
 use Rattle.pz_env_grown.proofs.WaysUp.{followed_same}

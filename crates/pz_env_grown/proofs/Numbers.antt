@@ -1,8 +1,8 @@
 -- Numbers and names of the classes of a model.
 use Rattle.std.proofs.Common.{◌≡◌, refl, ℕ, zero, suc, ◌+◌, ◌<◌, ◌≤◌, Bool, true, false, List, [], ◌∷◌, length, Some, None, slice_get, arith}
 use Rattle.std.proofs.lemmas.Option.{slice_get_within}
-use Rattle.pz_syntax.specs.Classes.{DeclTree, ModelTree}
-use Rattle.pz_classes.specs.Numbers.{is_named, declaration, first_named, class}
+use Rattle.pz_bind_rules.specs.pz_syntax.Classes.{DeclTree, ModelTree}
+use Rattle.pz_bind_rules.specs.pz_classes_rules.Numbers.{is_named, declaration, first_named, class}
 
 pub none_some : {A : Type 0} (x : A) → None ≡ Some x → ⊥
 none_some x is = cc

@@ -1,15 +1,15 @@
 -- Parents of classes: in a sound model no class comes round to itself by them.
 use Rattle.std.proofs.Common.{◌≡◌, refl, ap, ℕ, suc, ◌<◌, ◌≤◌, Bool, true, false, List, length, Option, Some, None, if◌then◌else◌, ◌⊎◌, inl, inr}
 use Rattle.std.specs.Option.{option_and_then}
-use Rattle.pz_syntax.specs.declared.names.Id.{Id}
-use Rattle.pz_syntax.specs.Classes.{DeclTree, data_class, process_class, cluster_class, system, ModelTree}
-use Rattle.pz_check_violations.specs.Order.{violation}
-use Rattle.pz_classes_code.specs.ReservedNames.{is_primitive, is_unsupported}
-use Rattle.pz_classes.specs.Numbers.{declared_name, declaration, class}
-use Rattle.pz_classes.specs.Ancestors.{extended, parent_named, parent_of, parent, followed, ancestors}
-use Rattle.pz_classes.specs.Reached.{AncestorsAreReached}
-use Rattle.pz_classes.specs.Violations.{c3}
-use Rattle.pz_classes.specs.Soundness.{IsSound}
+use Rattle.pz_bind_rules.specs.pz_syntax.declared.names.Id.{Id}
+use Rattle.pz_bind_rules.specs.pz_syntax.Classes.{DeclTree, data_class, process_class, cluster_class, system, ModelTree}
+use Rattle.pz_bind_rules.specs.pz_check_violations.Order.{violation}
+use Rattle.pz_bind_rules.specs.pz_classes_code.ReservedNames.{is_primitive, is_unsupported}
+use Rattle.pz_bind_rules.specs.pz_classes_rules.Numbers.{declared_name, declaration, class}
+use Rattle.pz_bind_rules.specs.pz_classes_rules.Ancestors.{extended, parent_named, parent_of, parent, followed, ancestors}
+use Rattle.pz_bind_rules.specs.pz_classes_rules.Reached.{AncestorsAreReached}
+use Rattle.pz_bind_rules.specs.pz_classes_rules.Violations.{c3}
+use Rattle.pz_bind_rules.specs.pz_classes_rules.Soundness.{IsSound}
 use Rattle.pz_env_grown.proofs.Numbers.{none_some, class_within, class_declared}
 use Rattle.pz_env_grown.proofs.WaysUp.{More, one_more, ComesRound, round, last_reached, stays}
 

@@ -5,15 +5,15 @@ use Rattle.std.specs.Option.{option_map_or, option_and_then}
 use Rattle.std.proofs.lemmas.Bool.{eqb-true, false≢true, and_parts}
 use Rattle.std.proofs.lemmas.Map.Keys.{IsDistinct-cons}
 use Rattle.std.proofs.lemmas.Map.Steps.{length-le_from_distinct_below}
-use Rattle.pz_syntax.specs.declared.clusters.Instance.{Instance}
-use Rattle.pz_syntax.specs.Classes.{DeclTree, data_class, process_class, cluster_class, system, ModelTree}
-use Rattle.pz_classes_code.specs.ReservedNames.{is_primitive, is_unsupported}
-use Rattle.pz_classes.specs.Numbers.{declaration, class}
-use Rattle.pz_classes.specs.Kinds.{is_process, is_cluster, is_declared_as}
-use Rattle.pz_classes.specs.NameRules.{has_instances}
-use Rattle.pz_classes.specs.Instances.{instances, instance_class}
-use Rattle.pz_classes.specs.InstanceRules.{Holds, directly, through}
-use Rattle.pz_classes.specs.SoundSystem.{SystemFits}
+use Rattle.pz_bind_rules.specs.pz_syntax.declared.clusters.Instance.{Instance}
+use Rattle.pz_bind_rules.specs.pz_syntax.Classes.{DeclTree, data_class, process_class, cluster_class, system, ModelTree}
+use Rattle.pz_bind_rules.specs.pz_classes_code.ReservedNames.{is_primitive, is_unsupported}
+use Rattle.pz_bind_rules.specs.pz_classes_rules.Numbers.{declaration, class}
+use Rattle.pz_bind_rules.specs.pz_classes_rules.Kinds.{is_process, is_cluster, is_declared_as}
+use Rattle.pz_bind_rules.specs.pz_classes_rules.NameRules.{has_instances}
+use Rattle.pz_bind_rules.specs.pz_classes_rules.Instances.{instances, instance_class}
+use Rattle.pz_bind_rules.specs.pz_classes_rules.InstanceRules.{Holds, directly, through}
+use Rattle.pz_bind_rules.specs.pz_classes_rules.SoundSystem.{SystemFits}
 use Rattle.pz_env_grown.proofs.Numbers.{none_some, some_same, declared_within}
 use Rattle.pz_env_grown.proofs.Elements.{none_in}
 

@@ -4,7 +4,7 @@ use Rattle.std.specs.List.{Contains}
 use Rattle.std.specs.Option.{option_map_or}
 use Rattle.std.proofs.lemmas.List.Elements.{Contains-append_right}
 use Rattle.pz_classes_lineage.specs.Reached.{Reaches, itself, further}
-use Rattle.pz_classes.specs.Ancestors.{followed}
+use Rattle.pz_bind_rules.specs.pz_classes_rules.Ancestors.{followed}
 use Rattle.pz_env_grown.proofs.Elements.{none_in, first_in, in_cases}
 
 module _ (up : ℕ → Option ℕ) where

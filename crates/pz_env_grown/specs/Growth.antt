@@ -1,10 +1,10 @@
 -- A model that has all declarations of another, and more behind them. Of what was there only systems have
 -- changed; what is new are process classes without a parent.
 use Rattle.std.specs.Prelude.{◌≡◌, ℕ, ◌+◌, List, length, Option, Some, None}
-use Rattle.pz_syntax.specs.declared.clusters.SystemDecl.{SystemDecl}
-use Rattle.pz_syntax.specs.Classes.{ProcessClassTree, DeclTree, process_class, system, ModelTree}
-use Rattle.pz_classes.specs.Numbers.{declaration, class}
-use Rattle.pz_bind.specs.Nest.{first_system}
+use Rattle.pz_bind_rules.specs.pz_syntax.declared.clusters.SystemDecl.{SystemDecl}
+use Rattle.pz_bind_rules.specs.pz_syntax.Classes.{ProcessClassTree, DeclTree, process_class, system, ModelTree}
+use Rattle.pz_bind_rules.specs.pz_classes_rules.Numbers.{declaration, class}
+use Rattle.pz_bind_rules.specs.Nest.{first_system}
 
 -- what a declaration has become
 pub data Alike : DeclTree → DeclTree → Type 0 where

@@ -1,8 +1,8 @@
 -- Laws of models that have grown.
 use Rattle.std.specs.Prelude.{◌≡◌, ℕ}
-use Rattle.pz_syntax.specs.Classes.{ModelTree}
-use Rattle.pz_classes.specs.Ancestors.{ancestors}
-use Rattle.pz_classes.specs.Soundness.{IsSound}
+use Rattle.pz_bind_rules.specs.pz_syntax.Classes.{ModelTree}
+use Rattle.pz_bind_rules.specs.pz_classes_rules.Ancestors.{ancestors}
+use Rattle.pz_bind_rules.specs.pz_classes_rules.Soundness.{IsSound}
 use Rattle.pz_env_grown.specs.Growth.{Grown}
 
 -- Where the model is sound, each class has the ancestors that it had.

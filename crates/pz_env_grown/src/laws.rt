@@ -6,5 +6,5 @@ ghost use Rattle.pz_env_grown.specs.Laws.{GrownModelsKeepAncestors};
 pub fn grown_models_keep_ancestors()
     ensures law { GrownModelsKeepAncestors }
 {
-    pz_classes::laws::ancestors_are_reached();
+    pz_bind_rules::pz_classes_rules::laws::ancestors_are_reached();
 }

@@ -6,22 +6,22 @@ use Rattle.std.specs.Option.{option_map_or}
 use Rattle.std.specs.Str.{bytes_eq}
 use Rattle.std.proofs.lemmas.List.Elements.{Contains-append_left, Contains-append_right}
 use Rattle.std.proofs.lemmas.Slice.Eq.{bytes_eq-Decides}
-use Rattle.pz_syntax.specs.declared.clusters.Instance.{Instance}
-use Rattle.pz_syntax.specs.declared.clusters.Channel.{Channel}
-use Rattle.pz_syntax.specs.declared.clusters.ChannelEnd.{ChannelEnd}
-use Rattle.pz_syntax.specs.declared.clusters.ChannelEnd.TheVariants.{Inner, Outer}
-use Rattle.pz_syntax.specs.declared.clusters.SystemDecl.{SystemDecl}
-use Rattle.pz_syntax.specs.Classes.{DeclTree, system, ModelTree}
-use Rattle.pz_classes.specs.Numbers.{declaration, class}
-use Rattle.pz_classes.specs.Instances.{instances, channels}
-use Rattle.pz_classes.specs.ChannelRules.{ends}
-use Rattle.pz_classes.specs.SoundSystem.{SystemFits, InnerFits}
-use Rattle.pz_bind.specs.Nest.{system_class, instances_at, channels_at}
-use Rattle.pz_bind.specs.Connections.{is_inner, names_inner}
-use Rattle.pz_env_script.specs.declared.entry.Entry.{Entry}
-use Rattle.pz_env_tree.specs.pz_env_rules.Environment.{Line, lines_from, lines_of}
-use Rattle.pz_env_tree.specs.Names.{class_name, instance_name}
-use Rattle.pz_env_tree.specs.Refusals.{IsFull, has_class, has_instance, IsPort, IsBadEntry, no_port, IsFirstRefused, no_room, bad_entry}
+use Rattle.pz_env_mimics.specs.pz_syntax.declared.clusters.Instance.{Instance}
+use Rattle.pz_env_mimics.specs.pz_syntax.declared.clusters.Channel.{Channel}
+use Rattle.pz_env_mimics.specs.pz_syntax.declared.clusters.ChannelEnd.{ChannelEnd}
+use Rattle.pz_env_mimics.specs.pz_syntax.declared.clusters.ChannelEnd.TheVariants.{Inner, Outer}
+use Rattle.pz_env_mimics.specs.pz_syntax.declared.clusters.SystemDecl.{SystemDecl}
+use Rattle.pz_env_mimics.specs.pz_syntax.Classes.{DeclTree, system, ModelTree}
+use Rattle.pz_env_mimics.specs.pz_classes_rules.Numbers.{declaration, class}
+use Rattle.pz_env_mimics.specs.pz_classes_rules.Instances.{instances, channels}
+use Rattle.pz_env_mimics.specs.pz_classes_rules.ChannelRules.{ends}
+use Rattle.pz_env_mimics.specs.pz_classes_rules.SoundSystem.{SystemFits, InnerFits}
+use Rattle.pz_env_mimics.specs.pz_bind_rules.Nest.{system_class, instances_at, channels_at}
+use Rattle.pz_env_mimics.specs.pz_bind_rules.Connections.{is_inner, names_inner}
+use Rattle.pz_env_mimics.specs.pz_env_script.declared.entry.Entry.{Entry}
+use Rattle.pz_env_mimics.specs.pz_env_rules.Environment.{Line, lines_from, lines_of}
+use Rattle.pz_env_mimics.specs.pz_env_tree.Names.{class_name, instance_name}
+use Rattle.pz_env_mimics.specs.pz_env_tree.Refusals.{IsFull, has_class, has_instance, IsPort, IsBadEntry, no_port, IsFirstRefused, no_room, bad_entry}
 use Rattle.pz_env_grown.proofs.Elements.{first_in, later_in}
 use Rattle.pz_env_joined.proofs.Places.{system_declared}
 

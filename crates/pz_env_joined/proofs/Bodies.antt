@@ -5,32 +5,32 @@ use Rattle.std.specs.Prelude.{if◌then◌else◌, cond}
 use Rattle.std.specs.List.{Contains}
 use Rattle.std.specs.Option.{option_map_or, option_and_then, unwrap_or}
 use Rattle.std.proofs.lemmas.List.Elements.{Contains-append_right}
-use Rattle.pz_syntax.specs.declared.names.Id.{Id}
-use Rattle.pz_syntax.specs.Expressions.{Expressions}
-use Rattle.pz_syntax.specs.Statements.{call}
-use Rattle.pz_syntax.specs.Classes.{DataMethodTree, DataClassTree, StartTree, ProcessMethodTree, ProcessClassTree, DeclTree, data_class, process_class, ModelTree}
-use Rattle.pz_value.specs.declared.value.ClassId.{ClassId}
-use Rattle.pz_check_violations.specs.Order.{violation}
+use Rattle.pz_env_mimics.specs.pz_syntax.declared.names.Id.{Id}
+use Rattle.pz_env_mimics.specs.pz_syntax.Expressions.{Expressions}
+use Rattle.pz_env_mimics.specs.pz_syntax.Statements.{call}
+use Rattle.pz_env_mimics.specs.pz_syntax.Classes.{DataMethodTree, DataClassTree, StartTree, ProcessMethodTree, ProcessClassTree, DeclTree, data_class, process_class, ModelTree}
+use Rattle.pz_env_mimics.specs.pz_value.declared.value.ClassId.{ClassId}
+use Rattle.pz_env_mimics.specs.pz_check_violations.Order.{violation}
 use Rattle.pz_classes_mentions.specs.declared.mention.Mention.{Mention}
 use Rattle.pz_classes_mentions.specs.declared.mention.Mention.TheVariants as w
 use Rattle.pz_classes_mentions.specs.declared.local_scope.LocalScope.{LocalScope}
 use Rattle.pz_classes_mentions.specs.Expressions.{count, mentioned_all}
 use Rattle.pz_classes_mentions.specs.Statements.{mentioned_statements}
 use Rattle.pz_classes_mentions.specs.Declarations.{types, section_types, extended, mentioned_messages, mentioned_start, data_head, data_method, process_head, process_method, parts}
-use Rattle.pz_classes_code.specs.ReservedNames.{is_primitive, is_unsupported, is_array}
-use Rattle.pz_classes_code.specs.declared.slot.Slot.{Slot}
-use Rattle.pz_classes_code.specs.Resolution.{unknown, resolved_all, resolved_statements}
-use Rattle.pz_classes.specs.Numbers.{declaration, class}
-use Rattle.pz_classes.specs.Kinds.{is_data, is_declared_as}
-use Rattle.pz_classes.specs.Members.{spelled, fields, variables, ports}
-use Rattle.pz_classes.specs.Words.{Mentions}
-use Rattle.pz_classes.specs.WordRules.{c12, c18}
-use Rattle.pz_classes.specs.NameRules.{may_create}
-use Rattle.pz_classes.specs.Soundness.{IsSound, a_word}
-use Rattle.pz_classes.specs.Reached.{AncestorsAreReached}
-use Rattle.pz_classes_code.specs.Places.{place_in}
-use Rattle.pz_classes.specs.Bodies.{scope_of, data_scope, process_scope, data_locals, process_locals}
-use Rattle.pz_classes.specs.Starts.{start_call}
+use Rattle.pz_env_mimics.specs.pz_classes_code.ReservedNames.{is_primitive, is_unsupported, is_array}
+use Rattle.pz_env_mimics.specs.pz_classes_code.declared.slot.Slot.{Slot}
+use Rattle.pz_env_mimics.specs.pz_classes_code.Resolution.{unknown, resolved_all, resolved_statements}
+use Rattle.pz_env_mimics.specs.pz_classes_rules.Numbers.{declaration, class}
+use Rattle.pz_env_mimics.specs.pz_classes_rules.Kinds.{is_data, is_declared_as}
+use Rattle.pz_env_mimics.specs.pz_classes_rules.Members.{spelled, fields, variables, ports}
+use Rattle.pz_env_mimics.specs.pz_classes_rules.Words.{Mentions}
+use Rattle.pz_env_mimics.specs.pz_classes_rules.WordRules.{c12, c18}
+use Rattle.pz_env_mimics.specs.pz_classes_rules.NameRules.{may_create}
+use Rattle.pz_env_mimics.specs.pz_classes_rules.Soundness.{IsSound, a_word}
+use Rattle.pz_env_mimics.specs.pz_classes_rules.Reached.{AncestorsAreReached}
+use Rattle.pz_env_mimics.specs.pz_classes_code.Places.{place_in}
+use Rattle.pz_env_mimics.specs.pz_classes_rules.Bodies.{scope_of, data_scope, process_scope, data_locals, process_locals}
+use Rattle.pz_env_mimics.specs.pz_classes_rules.Starts.{start_call}
 use Rattle.pz_env_grown.specs.Growth.{Grown}
 use Rattle.pz_env_grown.proofs.Elements.{first_in, later_in}
 use Rattle.pz_env_grown.proofs.Alike.{IsDeclared}

@@ -2,22 +2,22 @@
 -- than there are methods comes to nothing new.
 use Rattle.std.proofs.Common.{◌≡◌, refl, sym, ap, ◌∙◌, ◌⊎◌, inl, inr, subst, ℕ, zero, suc, Option, Some, None}
 use Rattle.std.proofs.Math.Path.{fun_ext}
-use Rattle.pz_syntax.specs.declared.tokens.Pos.{Pos}
-use Rattle.pz_syntax.specs.declared.names.Id.{Id}
-use Rattle.pz_syntax.specs.Statements.{skip, delay, bracketed, block, guarded, parallel, select, conditional, repeated, abort, interrupt, send, receive, call, assignment, value}
-use Rattle.pz_syntax.specs.Classes.{ModelTree}
-use Rattle.pz_classes.specs.declared.method_id.Counts.TheVariants.{Process as process_counts}
-use Rattle.pz_classes.specs.Bodies.{BodyTree, data_body, process_body}
-use Rattle.pz_classes.specs.Soundness.{IsSound}
+use Rattle.pz_env_mimics.specs.pz_syntax.declared.tokens.Pos.{Pos}
+use Rattle.pz_env_mimics.specs.pz_syntax.declared.names.Id.{Id}
+use Rattle.pz_env_mimics.specs.pz_syntax.Statements.{skip, delay, bracketed, block, guarded, parallel, select, conditional, repeated, abort, interrupt, send, receive, call, assignment, value}
+use Rattle.pz_env_mimics.specs.pz_syntax.Classes.{ModelTree}
+use Rattle.pz_env_mimics.specs.pz_classes_rules.declared.method_id.Counts.TheVariants.{Process as process_counts}
+use Rattle.pz_env_mimics.specs.pz_classes_rules.Bodies.{BodyTree, data_body, process_body}
+use Rattle.pz_env_mimics.specs.pz_classes_rules.Soundness.{IsSound}
 use Rattle.pz_classes_openings.specs.OpeningRules.{Opens}
-use Rattle.pz_state.specs.States.{StateView}
-use Rattle.pz_rules.specs.declared.limits.Edition.{Edition}
-use Rattle.pz_rules.specs.declared.limits.Edition.TheVariants.{One, Two}
-use Rattle.pz_rules.specs.Terms.{Step, Steps, leaf}
-use Rattle.pz_rules.specs.Settings.{Process, left_by, Home}
-use Rattle.pz_rules.specs.Openable.{IsProcessClass}
-use Rattle.pz_rules.specs.Opening.{steps_opened, in_frame, called_body, by_body, entered_to, depth_of, enter_in, enter}
-use Rattle.pz_rules.specs.CallLaws.{plain_call, OpensCalls, IsCalled, CallsUnfold}
+use Rattle.pz_env_mimics.specs.pz_state.States.{StateView}
+use Rattle.pz_env_mimics.specs.pz_rules.declared.limits.Edition.{Edition}
+use Rattle.pz_env_mimics.specs.pz_rules.declared.limits.Edition.TheVariants.{One, Two}
+use Rattle.pz_env_mimics.specs.pz_rules.Terms.{Step, Steps, leaf}
+use Rattle.pz_env_mimics.specs.pz_rules.Settings.{Process, left_by, Home}
+use Rattle.pz_env_mimics.specs.pz_rules.Openable.{IsProcessClass}
+use Rattle.pz_env_mimics.specs.pz_rules.Opening.{steps_opened, in_frame, called_body, by_body, entered_to, depth_of, enter_in, enter}
+use Rattle.pz_env_mimics.specs.pz_rules.CallLaws.{plain_call, OpensCalls, IsCalled, CallsUnfold}
 use Rattle.pz_env_same.specs.SameRules.{home_in}
 use Rattle.pz_env_joined.proofs.Numbered.{has_body}
 

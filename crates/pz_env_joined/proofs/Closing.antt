@@ -4,22 +4,22 @@ use Rattle.std.specs.Prelude.{codes}
 use Rattle.std.specs.List.{flat_map}
 use Rattle.std.specs.Option.{option_map_or, unwrap_or}
 use Rattle.std.proofs.lemmas.List.{length-append}
-use Rattle.pz_syntax.specs.declared.clusters.Instance.{Instance}
-use Rattle.pz_syntax.specs.declared.clusters.Channel.{Channel}
-use Rattle.pz_syntax.specs.declared.clusters.SystemDecl.{SystemDecl}
-use Rattle.pz_syntax.specs.Classes.{DeclTree, data_class, process_class, cluster_class, system, ModelTree}
-use Rattle.pz_classes.specs.Numbers.{declaration, class, spelling}
-use Rattle.pz_classes.specs.Instances.{instances, channels}
-use Rattle.pz_classes.specs.Tables.{class_names}
-use Rattle.pz_classes.specs.SoundSystem.{SystemFits}
+use Rattle.pz_env_mimics.specs.pz_syntax.declared.clusters.Instance.{Instance}
+use Rattle.pz_env_mimics.specs.pz_syntax.declared.clusters.Channel.{Channel}
+use Rattle.pz_env_mimics.specs.pz_syntax.declared.clusters.SystemDecl.{SystemDecl}
+use Rattle.pz_env_mimics.specs.pz_syntax.Classes.{DeclTree, data_class, process_class, cluster_class, system, ModelTree}
+use Rattle.pz_env_mimics.specs.pz_classes_rules.Numbers.{declaration, class, spelling}
+use Rattle.pz_env_mimics.specs.pz_classes_rules.Instances.{instances, channels}
+use Rattle.pz_env_mimics.specs.pz_classes_rules.ClassNames.{class_names}
+use Rattle.pz_env_mimics.specs.pz_classes_rules.SoundSystem.{SystemFits}
 use Rattle.pz_classes_openings.specs.Methods.{declared_methods, methods}
-use Rattle.pz_bind.specs.Nest.{system_class, instances_in, channels_in, channels_at}
-use Rattle.pz_env_tree.specs.pz_env_rules.Environment.{Line}
-use Rattle.pz_env_tree.specs.pz_env_rules.Ends.{first_mentions, further_channels}
-use Rattle.pz_env_tree.specs.pz_env_rules.Joining.{with_channels, decl_with, joined}
-use Rattle.pz_env_tree.specs.Names.{class_name}
-use Rattle.pz_env_tree.specs.EnvironmentClass.{environment_class}
-use Rattle.pz_env_tree.specs.ClosedTree.{environment, channel_of, closed_system, closed_decl, closed_by}
+use Rattle.pz_env_mimics.specs.pz_bind_rules.Nest.{system_class, instances_in, channels_in, channels_at}
+use Rattle.pz_env_mimics.specs.pz_env_rules.Environment.{Line}
+use Rattle.pz_env_mimics.specs.pz_env_rules.Ends.{first_mentions, further_channels}
+use Rattle.pz_env_mimics.specs.pz_env_rules.Joining.{with_channels, decl_with, joined}
+use Rattle.pz_env_mimics.specs.pz_env_tree.Names.{class_name}
+use Rattle.pz_env_mimics.specs.pz_env_tree.EnvironmentClass.{environment_class}
+use Rattle.pz_env_mimics.specs.pz_env_tree.ClosedTree.{environment, channel_of, closed_system, closed_decl, closed_by}
 use Rattle.pz_env_grown.specs.Growth.{Alike, same, systems, Grown}
 use Rattle.pz_env_grown.proofs.Alike.{of_alike}
 use Rattle.pz_env_grown.proofs.Behind.{no_more, one_more, grown_so, changed, behind_there, behind_named}

@@ -2,14 +2,14 @@
 use Rattle.std.proofs.Common.{◌≡◌, refl, sym, ap, ◌∙◌, ℕ, zero, suc, ◌+◌, ◌<◌, ◌≤◌, List, [], ◌∷◌, ◌++◌, length, Option, Some, arith}
 use Rattle.std.specs.List.{Contains}
 use Rattle.std.specs.Option.{option_map_or}
-use Rattle.pz_syntax.specs.declared.clusters.Instance.{Instance}
-use Rattle.pz_syntax.specs.Classes.{DeclTree, ModelTree}
-use Rattle.pz_classes.specs.Numbers.{declaration}
-use Rattle.pz_classes.specs.Instances.{instances}
-use Rattle.pz_classes.specs.InstanceRules.{Holds, directly}
-use Rattle.pz_classes.specs.SoundSystem.{SystemFits}
+use Rattle.pz_env_mimics.specs.pz_syntax.declared.clusters.Instance.{Instance}
+use Rattle.pz_env_mimics.specs.pz_syntax.Classes.{DeclTree, ModelTree}
+use Rattle.pz_env_mimics.specs.pz_classes_rules.Numbers.{declaration}
+use Rattle.pz_env_mimics.specs.pz_classes_rules.Instances.{instances}
+use Rattle.pz_env_mimics.specs.pz_classes_rules.InstanceRules.{Holds, directly}
+use Rattle.pz_env_mimics.specs.pz_classes_rules.SoundSystem.{SystemFits}
 use Rattle.pz_bind_levels.specs.Places.{Address}
-use Rattle.pz_bind.specs.Nest.{each_instance, instances_in, class_of, with_inside, inside}
+use Rattle.pz_env_mimics.specs.pz_bind_rules.Nest.{each_instance, instances_in, class_of, with_inside, inside}
 use Rattle.pz_env_grown.proofs.Elements.{first_in, later_in}
 use Rattle.pz_env_grown.proofs.Numbers.{none_some, declared_within}
 use Rattle.pz_env_grown.proofs.Alike.{IsDeclared}

@@ -4,31 +4,31 @@ use Rattle.std.specs.Prelude.{if◌then◌else◌, codes}
 use Rattle.std.specs.Fmt.{decimal}
 use Rattle.std.specs.List.{AllByRecursion, flat_map}
 use Rattle.std.specs.Option.{option_map_or, unwrap_or}
-use Rattle.pz_syntax.specs.declared.clusters.Instance.{Instance}
-use Rattle.pz_syntax.specs.declared.clusters.Channel.{Channel as Written}
-use Rattle.pz_syntax.specs.declared.names.Id.{Id}
-use Rattle.pz_syntax.specs.Classes.{ModelTree}
-use Rattle.pz_value.specs.declared.value.Value.TheVariants.{Nil}
-use Rattle.pz_classes.specs.Members.{variables, spelled}
-use Rattle.pz_classes.specs.MethodBodies.{process_method_body}
-use Rattle.pz_classes.specs.Starts.{init}
-use Rattle.pz_classes.specs.Soundness.{IsSound}
-use Rattle.pz_classes.specs.SoundSystem.{SystemFits}
+use Rattle.pz_env_mimics.specs.pz_syntax.declared.clusters.Instance.{Instance}
+use Rattle.pz_env_mimics.specs.pz_syntax.declared.clusters.Channel.{Channel as Written}
+use Rattle.pz_env_mimics.specs.pz_syntax.declared.names.Id.{Id}
+use Rattle.pz_env_mimics.specs.pz_syntax.Classes.{ModelTree}
+use Rattle.pz_env_mimics.specs.pz_value.declared.value.Value.TheVariants.{Nil}
+use Rattle.pz_env_mimics.specs.pz_classes_rules.Members.{variables, spelled}
+use Rattle.pz_env_mimics.specs.pz_classes_rules.MethodBodies.{process_method_body}
+use Rattle.pz_env_mimics.specs.pz_classes_rules.Starts.{init}
+use Rattle.pz_env_mimics.specs.pz_classes_rules.Soundness.{IsSound}
+use Rattle.pz_env_mimics.specs.pz_classes_rules.SoundSystem.{SystemFits}
 use Rattle.pz_classes_openings.specs.OpeningRules.{Opens}
 use Rattle.pz_bind_levels.specs.Places.{Address}
 use Rattle.pz_bind_levels.specs.Wires.{Channel, channel}
-use Rattle.pz_bind.specs.Nest.{channels_at, levels, processes}
-use Rattle.pz_bind.specs.Names.{path, wire_name}
-use Rattle.pz_bind.specs.Values.{given_value, parameter_at, values_at}
-use Rattle.pz_bind.specs.Wires.{is_joined, ending, wires_at, wires}
-use Rattle.pz_rules.specs.declared.limits.Limits.{Limits}
-use Rattle.pz_trace.specs.Labels.{path_of, wire_of}
-use Rattle.pz_env_script.specs.declared.entry.Entry.{Entry}
-use Rattle.pz_env_tree.specs.pz_env_rules.Environment.{Line, lines_of}
-use Rattle.pz_env_tree.specs.pz_env_rules.Joining.{joined, driving}
-use Rattle.pz_env_tree.specs.Names.{method_name, variable_name, end_number}
-use Rattle.pz_env_tree.specs.EnvironmentClass.{first_place, named}
-use Rattle.pz_env_tree.specs.ClosedTree.{environment, closed_by}
+use Rattle.pz_env_mimics.specs.pz_bind_rules.Nest.{channels_at, levels, processes}
+use Rattle.pz_env_mimics.specs.pz_bind_rules.Names.{path, wire_name}
+use Rattle.pz_env_mimics.specs.pz_bind_rules.Values.{given_value, parameter_at, values_at}
+use Rattle.pz_env_mimics.specs.pz_bind_rules.Wires.{is_joined, ending, wires_at, wires}
+use Rattle.pz_env_mimics.specs.pz_rules.declared.limits.Limits.{Limits}
+use Rattle.pz_env_mimics.specs.pz_trace.Labels.{path_of, wire_of}
+use Rattle.pz_env_mimics.specs.pz_env_script.declared.entry.Entry.{Entry}
+use Rattle.pz_env_mimics.specs.pz_env_rules.Environment.{Line, lines_of}
+use Rattle.pz_env_mimics.specs.pz_env_rules.Joining.{joined, driving}
+use Rattle.pz_env_mimics.specs.pz_env_tree.Names.{method_name, variable_name, end_number}
+use Rattle.pz_env_mimics.specs.pz_env_tree.EnvironmentClass.{first_place, named}
+use Rattle.pz_env_mimics.specs.pz_env_tree.ClosedTree.{environment, closed_by}
 use Rattle.pz_env_same.specs.SameRules.{SameRules}
 use Rattle.pz_env_joined.specs.OneMore.{IsAccepted, HasOneMore}
 use Rattle.pz_env_mimics.specs.Environments.{HasEnvironment}

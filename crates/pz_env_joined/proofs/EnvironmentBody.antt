@@ -4,34 +4,34 @@ use Rattle.std.proofs.Common.{◌≡◌, refl, sym, ap, ◌∙◌, ℕ, zero, su
 use Rattle.std.specs.Prelude.{option_map, unwrap_or}
 use Rattle.std.specs.Option.{option_map_or, option_and_then}
 use Rattle.std.specs.List.{Contains}
-use Rattle.pz_syntax.specs.declared.names.Id.{Id}
-use Rattle.pz_syntax.specs.declared.tokens.Pos.{Pos}
-use Rattle.pz_syntax.specs.Expressions as expression
-use Rattle.pz_syntax.specs.Expressions.{none, more, left_out, written}
-use Rattle.pz_syntax.specs.Statements.{send, receive, call, then}
-use Rattle.pz_syntax.specs.Classes.{DeclTree, ModelTree}
-use Rattle.pz_value.specs.declared.value.Value.{Value}
-use Rattle.pz_classes_code.specs.declared.slot.Slot.{Slot}
-use Rattle.pz_classes_code.specs.declared.slot.Slot.TheVariants.{Shared}
-use Rattle.pz_classes_code.specs.Resolution.{Scope, unknown, port_of, slots_of, resolved_all, resolved_part, resolved_statement, resolved_statements}
-use Rattle.pz_classes.specs.declared.method_id.Counts.TheVariants.{Process}
-use Rattle.pz_classes.specs.Numbers.{class}
-use Rattle.pz_classes.specs.Members.{ports, spelled}
-use Rattle.pz_classes.specs.Methods.{Signature, nearest}
-use Rattle.pz_classes_code.specs.Places.{place_in}
-use Rattle.pz_classes.specs.Bodies.{BodyTree, process_body, scope_of}
-use Rattle.pz_classes.specs.MethodBodies.{own_methods, first_body, own_body, process_method_body}
-use Rattle.pz_classes.specs.Starts.{own_start, start_call, own_call, init}
-use Rattle.pz_env_script.specs.declared.entry.Entry.{Entry}
-use Rattle.pz_env_script.specs.declared.entry.Transfer.{Transfer}
-use Rattle.pz_env_script.specs.declared.entry.Transfer.TheVariants.{Send, Receive}
-use Rattle.pz_env_tree.specs.pz_env_rules.Environment.{Line, at_line, lines_of}
-use Rattle.pz_env_tree.specs.pz_env_rules.Ends.{first_mentions, named_at}
-use Rattle.pz_env_tree.specs.Names.{method_name, variable_name, end_number, port_name}
-use Rattle.pz_env_tree.specs.Names as names
-use Rattle.pz_env_tree.specs.EnvironmentClass.{first_place, named, unless_none, environment_class}
-use Rattle.pz_env_tree.specs.EnvironmentClass as tree
-use Rattle.pz_env_tree.specs.ClosedTree.{closed_by}
+use Rattle.pz_env_mimics.specs.pz_syntax.declared.names.Id.{Id}
+use Rattle.pz_env_mimics.specs.pz_syntax.declared.tokens.Pos.{Pos}
+use Rattle.pz_env_mimics.specs.pz_syntax.Expressions as expression
+use Rattle.pz_env_mimics.specs.pz_syntax.Expressions.{none, more, left_out, written}
+use Rattle.pz_env_mimics.specs.pz_syntax.Statements.{send, receive, call, then}
+use Rattle.pz_env_mimics.specs.pz_syntax.Classes.{DeclTree, ModelTree}
+use Rattle.pz_env_mimics.specs.pz_value.declared.value.Value.{Value}
+use Rattle.pz_env_mimics.specs.pz_classes_code.declared.slot.Slot.{Slot}
+use Rattle.pz_env_mimics.specs.pz_classes_code.declared.slot.Slot.TheVariants.{Shared}
+use Rattle.pz_env_mimics.specs.pz_classes_code.Resolution.{Scope, unknown, port_of, slots_of, resolved_all, resolved_part, resolved_statement, resolved_statements}
+use Rattle.pz_env_mimics.specs.pz_classes_rules.declared.method_id.Counts.TheVariants.{Process}
+use Rattle.pz_env_mimics.specs.pz_classes_rules.Numbers.{class}
+use Rattle.pz_env_mimics.specs.pz_classes_rules.Members.{ports, spelled}
+use Rattle.pz_env_mimics.specs.pz_classes_rules.Methods.{Signature, nearest}
+use Rattle.pz_env_mimics.specs.pz_classes_code.Places.{place_in}
+use Rattle.pz_env_mimics.specs.pz_classes_rules.Bodies.{BodyTree, process_body, scope_of}
+use Rattle.pz_env_mimics.specs.pz_classes_rules.MethodBodies.{own_methods, first_body, own_body, process_method_body}
+use Rattle.pz_env_mimics.specs.pz_classes_rules.Starts.{own_start, start_call, own_call, init}
+use Rattle.pz_env_mimics.specs.pz_env_script.declared.entry.Entry.{Entry}
+use Rattle.pz_env_mimics.specs.pz_env_script.declared.entry.Transfer.{Transfer}
+use Rattle.pz_env_mimics.specs.pz_env_script.declared.entry.Transfer.TheVariants.{Send, Receive}
+use Rattle.pz_env_mimics.specs.pz_env_rules.Environment.{Line, at_line, lines_of}
+use Rattle.pz_env_mimics.specs.pz_env_rules.Ends.{first_mentions, named_at}
+use Rattle.pz_env_mimics.specs.pz_env_tree.Names.{method_name, variable_name, end_number, port_name}
+use Rattle.pz_env_mimics.specs.pz_env_tree.Names as names
+use Rattle.pz_env_mimics.specs.pz_env_tree.EnvironmentClass.{first_place, named, unless_none, environment_class}
+use Rattle.pz_env_mimics.specs.pz_env_tree.EnvironmentClass as tree
+use Rattle.pz_env_mimics.specs.pz_env_tree.ClosedTree.{closed_by}
 use Rattle.pz_env_mimics.specs.Environments.{literals, arguments, exchange, waiting, statements}
 use Rattle.pz_env_grown.proofs.Elements.{first_in, later_in}
 use Rattle.pz_env_joined.proofs.Closing.{env_class, env_declared}

@@ -6,17 +6,17 @@ use Rattle.std.specs.Str.{bytes_eq}
 use Rattle.std.proofs.lemmas.Fmt.{decimal_injective}
 use Rattle.std.proofs.lemmas.Option.{slice_get-map, slice_get_within}
 use Rattle.std.proofs.lemmas.Slice.Eq.{bytes_eq-Decides}
-use Rattle.pz_syntax.specs.declared.names.Id.{Id}
-use Rattle.pz_syntax.specs.Classes.{DeclTree, process_class, ModelTree}
-use Rattle.pz_classes.specs.Ancestors.{parent_of, parent, followed, ancestors}
-use Rattle.pz_classes.specs.Members.{own_variables, own_ports, from_root, variables, ports, spelled}
-use Rattle.pz_classes_code.specs.Places.{place_from, place_in}
-use Rattle.pz_env_script.specs.declared.entry.Entry.{Entry}
-use Rattle.pz_env_tree.specs.pz_env_rules.Environment.{Line, lines_from, lines_of}
-use Rattle.pz_env_tree.specs.pz_env_rules.Ends.{is_same_end, first_mentions}
-use Rattle.pz_env_tree.specs.Names.{variable_name, end_number, port_name, port_of}
-use Rattle.pz_env_tree.specs.EnvironmentClass.{named, environment_class}
-use Rattle.pz_env_tree.specs.ClosedTree.{closed_by}
+use Rattle.pz_env_mimics.specs.pz_syntax.declared.names.Id.{Id}
+use Rattle.pz_env_mimics.specs.pz_syntax.Classes.{DeclTree, process_class, ModelTree}
+use Rattle.pz_env_mimics.specs.pz_classes_rules.Ancestors.{parent_of, parent, followed, ancestors}
+use Rattle.pz_env_mimics.specs.pz_classes_rules.Members.{own_variables, own_ports, from_root, variables, ports, spelled}
+use Rattle.pz_env_mimics.specs.pz_classes_code.Places.{place_from, place_in}
+use Rattle.pz_env_mimics.specs.pz_env_script.declared.entry.Entry.{Entry}
+use Rattle.pz_env_mimics.specs.pz_env_rules.Environment.{Line, lines_from, lines_of}
+use Rattle.pz_env_mimics.specs.pz_env_rules.Ends.{is_same_end, first_mentions}
+use Rattle.pz_env_mimics.specs.pz_env_tree.Names.{variable_name, end_number, port_name, port_of}
+use Rattle.pz_env_mimics.specs.pz_env_tree.EnvironmentClass.{named, environment_class}
+use Rattle.pz_env_mimics.specs.pz_env_tree.ClosedTree.{closed_by}
 use Rattle.pz_env_joined.proofs.Accepted.{not_true}
 use Rattle.pz_env_joined.proofs.Closing.{env_class, env_declared}
 use Rattle.pz_env_joined.proofs.Firsts.{same_itself, end_is}

@@ -5,27 +5,27 @@ use Rattle.std.specs.Option.{option_map}
 use Rattle.std.specs.Str.{bytes_eq}
 use Rattle.std.proofs.lemmas.Option.{slice_get-map}
 use Rattle.std.proofs.lemmas.Slice.Eq.{bytes_eq-Decides}
-use Rattle.pz_syntax.specs.declared.clusters.Instance.{Instance}
-use Rattle.pz_syntax.specs.declared.clusters.Channel.{Channel as Written}
-use Rattle.pz_syntax.specs.Classes.{ModelTree}
-use Rattle.pz_classes.specs.Numbers.{class}
-use Rattle.pz_classes.specs.Members.{ports, spelled}
-use Rattle.pz_classes.specs.SoundSystem.{SystemFits}
+use Rattle.pz_env_mimics.specs.pz_syntax.declared.clusters.Instance.{Instance}
+use Rattle.pz_env_mimics.specs.pz_syntax.declared.clusters.Channel.{Channel as Written}
+use Rattle.pz_env_mimics.specs.pz_syntax.Classes.{ModelTree}
+use Rattle.pz_env_mimics.specs.pz_classes_rules.Numbers.{class}
+use Rattle.pz_env_mimics.specs.pz_classes_rules.Members.{ports, spelled}
+use Rattle.pz_env_mimics.specs.pz_classes_rules.SoundSystem.{SystemFits}
 use Rattle.pz_bind_levels.specs.Places.{Address}
 use Rattle.pz_bind_levels.specs.Wires.{Channel, channel}
-use Rattle.pz_bind.specs.Nest.{class_at, instance_at, channels_at, processes}
-use Rattle.pz_bind.specs.Connections.{PortEnd, end, names_inner, IsIn, is_in, Joined, joined as joins, Leads, itself, outwards}
-use Rattle.pz_bind.specs.Wires.{wires, HasWire}
-use Rattle.pz_rules.specs.declared.limits.Limits.{Limits}
-use Rattle.pz_rules.specs.Ports.{IsWire}
-use Rattle.pz_env_script.specs.declared.entry.Entry.{Entry}
-use Rattle.pz_env_tree.specs.pz_env_rules.Environment.{Line, lines_of}
-use Rattle.pz_env_tree.specs.pz_env_rules.Ends.{first_mentions}
-use Rattle.pz_env_tree.specs.pz_env_rules.Joining.{joined, driving}
-use Rattle.pz_env_tree.specs.pz_env_rules.Driven.{IsWireOf}
-use Rattle.pz_env_tree.specs.Names.{class_name, instance_name, end_number, port_name, port_of}
-use Rattle.pz_env_tree.specs.ClosedTree.{environment, channel_of, closed_by}
-use Rattle.pz_env_tree.specs.Refusals.{IsFirstRefused}
+use Rattle.pz_env_mimics.specs.pz_bind_rules.Nest.{class_at, instance_at, channels_at, processes}
+use Rattle.pz_env_mimics.specs.pz_bind_rules.Connections.{PortEnd, end, names_inner, IsIn, is_in, Joined, joined as joins, Leads, itself, outwards}
+use Rattle.pz_env_mimics.specs.pz_bind_rules.Wires.{wires, HasWire}
+use Rattle.pz_env_mimics.specs.pz_rules.declared.limits.Limits.{Limits}
+use Rattle.pz_env_mimics.specs.pz_rules.Ports.{IsWire}
+use Rattle.pz_env_mimics.specs.pz_env_script.declared.entry.Entry.{Entry}
+use Rattle.pz_env_mimics.specs.pz_env_rules.Environment.{Line, lines_of}
+use Rattle.pz_env_mimics.specs.pz_env_rules.Ends.{first_mentions}
+use Rattle.pz_env_mimics.specs.pz_env_rules.Joining.{joined, driving}
+use Rattle.pz_env_mimics.specs.pz_env_rules.Driven.{IsWireOf}
+use Rattle.pz_env_mimics.specs.pz_env_tree.Names.{class_name, instance_name, end_number, port_name, port_of}
+use Rattle.pz_env_mimics.specs.pz_env_tree.ClosedTree.{environment, channel_of, closed_by}
+use Rattle.pz_env_mimics.specs.pz_env_tree.Refusals.{IsFirstRefused}
 use Rattle.pz_env_joined.proofs.Numbered.{got_later}
 use Rattle.pz_env_joined.proofs.Closing.{closed_channels}
 use Rattle.pz_env_joined.proofs.Firsts.{first_is_line, has_first, end_is}

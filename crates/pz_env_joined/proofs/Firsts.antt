@@ -3,9 +3,9 @@ use Rattle.std.proofs.Common.{◌≡◌, refl, sym, ap, ◌∙◌, ℕ, zero, su
 use Rattle.std.specs.List.{Contains, AllByRecursion, filter, position_or_len}
 use Rattle.std.specs.Str.{bytes_eq}
 use Rattle.std.proofs.lemmas.Slice.Eq.{bytes_eq-Decides}
-use Rattle.pz_env_tree.specs.pz_env_rules.Environment.{Line}
-use Rattle.pz_env_tree.specs.pz_env_rules.Ends.{is_same_end, first_mentions, IsEnd}
-use Rattle.pz_env_tree.specs.Names.{end_number}
+use Rattle.pz_env_mimics.specs.pz_env_rules.Environment.{Line}
+use Rattle.pz_env_mimics.specs.pz_env_rules.Ends.{is_same_end, first_mentions, IsEnd}
+use Rattle.pz_env_mimics.specs.pz_env_tree.Names.{end_number}
 use Rattle.pz_env_grown.proofs.Elements.{later_in}
 
 -- Ends that are the same

@@ -3,15 +3,15 @@ use Rattle.std.proofs.Common.{◌≡◌, refl, sym, ap, ◌∙◌, ℕ, Bool, tr
 use Rattle.std.specs.Prelude.{if◌then◌else◌}
 use Rattle.std.specs.List.{Contains}
 use Rattle.std.specs.Option.{option_map_or, option_and_then, unwrap_or}
-use Rattle.pz_syntax.specs.declared.clusters.Instance.{Instance}
-use Rattle.pz_syntax.specs.Classes.{DeclTree, data_class, process_class, cluster_class, system, ModelTree}
-use Rattle.pz_classes_code.specs.ReservedNames.{is_primitive}
-use Rattle.pz_classes.specs.Numbers.{declaration, class}
-use Rattle.pz_classes.specs.Kinds.{is_process, is_cluster, is_declared_as}
-use Rattle.pz_classes.specs.NameRules.{has_instances}
-use Rattle.pz_classes.specs.Instances.{instances, instance_class}
-use Rattle.pz_classes.specs.SoundSystem.{SystemFits}
-use Rattle.pz_bind.specs.Nest.{is_system, instances_in, class_of}
+use Rattle.pz_env_mimics.specs.pz_syntax.declared.clusters.Instance.{Instance}
+use Rattle.pz_env_mimics.specs.pz_syntax.Classes.{DeclTree, data_class, process_class, cluster_class, system, ModelTree}
+use Rattle.pz_env_mimics.specs.pz_classes_code.ReservedNames.{is_primitive}
+use Rattle.pz_env_mimics.specs.pz_classes_rules.Numbers.{declaration, class}
+use Rattle.pz_env_mimics.specs.pz_classes_rules.Kinds.{is_process, is_cluster, is_declared_as}
+use Rattle.pz_env_mimics.specs.pz_classes_rules.NameRules.{has_instances}
+use Rattle.pz_env_mimics.specs.pz_classes_rules.Instances.{instances, instance_class}
+use Rattle.pz_env_mimics.specs.pz_classes_rules.SoundSystem.{SystemFits}
+use Rattle.pz_env_mimics.specs.pz_bind_rules.Nest.{is_system, instances_in, class_of}
 use Rattle.pz_env_grown.specs.Growth.{Alike, same, systems, Grown}
 use Rattle.pz_env_grown.proofs.Numbers.{class_declared}
 use Rattle.pz_env_grown.proofs.Alike.{became, of_declared}

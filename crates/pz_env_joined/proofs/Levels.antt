@@ -8,26 +8,26 @@ use Rattle.std.specs.Str.{bytes_eq}
 use Rattle.std.proofs.lemmas.List.{length-append, length-map}
 use Rattle.std.proofs.lemmas.Option.{slice_get_within}
 use Rattle.std.proofs.lemmas.Slice.Eq.{bytes_eq-Decides}
-use Rattle.pz_syntax.specs.declared.clusters.Instance.{Instance}
-use Rattle.pz_syntax.specs.declared.clusters.Channel.{Channel}
-use Rattle.pz_syntax.specs.Classes.{DeclTree, process_class, system, ModelTree}
-use Rattle.pz_classes.specs.Numbers.{declaration, class}
-use Rattle.pz_classes.specs.Instances.{instances, channels, instance_class}
-use Rattle.pz_classes.specs.Kinds.{is_process, is_cluster}
-use Rattle.pz_classes.specs.SoundSystem.{SystemFits}
+use Rattle.pz_env_mimics.specs.pz_syntax.declared.clusters.Instance.{Instance}
+use Rattle.pz_env_mimics.specs.pz_syntax.declared.clusters.Channel.{Channel}
+use Rattle.pz_env_mimics.specs.pz_syntax.Classes.{DeclTree, process_class, system, ModelTree}
+use Rattle.pz_env_mimics.specs.pz_classes_rules.Numbers.{declaration, class}
+use Rattle.pz_env_mimics.specs.pz_classes_rules.Instances.{instances, channels, instance_class}
+use Rattle.pz_env_mimics.specs.pz_classes_rules.Kinds.{is_process, is_cluster}
+use Rattle.pz_env_mimics.specs.pz_classes_rules.SoundSystem.{SystemFits}
 use Rattle.pz_bind_levels.specs.Places.{Address}
-use Rattle.pz_bind.specs.Nest.{system_class, instances_in, channels_in, class_of, class_at, instances_at, instance_at, channels_at, each_instance, with_inside, inside, places, is_level, is_process_at, levels, processes}
-use Rattle.pz_bind.specs.Names.{name_at}
-use Rattle.pz_bind.specs.Connections.{names_inner}
-use Rattle.pz_bind.specs.Wires.{wires}
-use Rattle.pz_env_script.specs.declared.entry.Entry.{Entry}
-use Rattle.pz_env_tree.specs.pz_env_rules.Environment.{Line}
-use Rattle.pz_env_tree.specs.pz_env_rules.Ends.{first_mentions, further_channels, channel_for}
-use Rattle.pz_env_tree.specs.pz_env_rules.Joining.{decl_with, joined}
-use Rattle.pz_env_tree.specs.Names.{class_name, instance_name}
-use Rattle.pz_env_tree.specs.EnvironmentClass.{environment_class}
-use Rattle.pz_env_tree.specs.ClosedTree.{environment, channel_of, closed_decl, closed_by}
-use Rattle.pz_env_tree.specs.Refusals.{IsFirstRefused}
+use Rattle.pz_env_mimics.specs.pz_bind_rules.Nest.{system_class, instances_in, channels_in, class_of, class_at, instances_at, instance_at, channels_at, each_instance, with_inside, inside, places, is_level, is_process_at, levels, processes}
+use Rattle.pz_env_mimics.specs.pz_bind_rules.Names.{name_at}
+use Rattle.pz_env_mimics.specs.pz_bind_rules.Connections.{names_inner}
+use Rattle.pz_env_mimics.specs.pz_bind_rules.Wires.{wires}
+use Rattle.pz_env_mimics.specs.pz_env_script.declared.entry.Entry.{Entry}
+use Rattle.pz_env_mimics.specs.pz_env_rules.Environment.{Line}
+use Rattle.pz_env_mimics.specs.pz_env_rules.Ends.{first_mentions, further_channels, channel_for}
+use Rattle.pz_env_mimics.specs.pz_env_rules.Joining.{decl_with, joined}
+use Rattle.pz_env_mimics.specs.pz_env_tree.Names.{class_name, instance_name}
+use Rattle.pz_env_mimics.specs.pz_env_tree.EnvironmentClass.{environment_class}
+use Rattle.pz_env_mimics.specs.pz_env_tree.ClosedTree.{environment, channel_of, closed_decl, closed_by}
+use Rattle.pz_env_mimics.specs.pz_env_tree.Refusals.{IsFirstRefused}
 use Rattle.pz_env_joined.proofs.Instances.{inner_same}
 use Rattle.pz_env_joined.proofs.Places.{Stands, inside_of, got_in, system_declared, inner_at, all_stand, class_at_same, added, levels_grow, processes_grow}
 use Rattle.pz_env_joined.proofs.Standing.{instance_same, name_same}

@@ -4,15 +4,15 @@ use Rattle.std.proofs.Common.{◌≡◌, refl, ap, ◌∙◌, subst, ℕ, zero, 
 use Rattle.std.specs.Prelude.{slice_index_or}
 use Rattle.std.specs.List.{Contains}
 use Rattle.std.specs.Option.{option_map_or, option_or}
-use Rattle.pz_syntax.specs.declared.names.Id.{Id}
-use Rattle.pz_syntax.specs.declared.clusters.SystemDecl.{SystemDecl}
-use Rattle.pz_syntax.specs.Classes.{DeclTree, system, ModelTree}
-use Rattle.pz_classes.specs.Numbers.{declaration}
-use Rattle.pz_classes.specs.Ancestors.{parent, followed, ancestors}
-use Rattle.pz_classes.specs.Members.{own_fields, own_variables, own_ports, from_root, fields, variables, ports}
-use Rattle.pz_classes.specs.Methods.{nearest}
-use Rattle.pz_classes.specs.Reached.{AncestorsAreReached}
-use Rattle.pz_classes.specs.Soundness.{IsSound}
+use Rattle.pz_env_mimics.specs.pz_syntax.declared.names.Id.{Id}
+use Rattle.pz_env_mimics.specs.pz_syntax.declared.clusters.SystemDecl.{SystemDecl}
+use Rattle.pz_env_mimics.specs.pz_syntax.Classes.{DeclTree, system, ModelTree}
+use Rattle.pz_env_mimics.specs.pz_classes_rules.Numbers.{declaration}
+use Rattle.pz_env_mimics.specs.pz_classes_rules.Ancestors.{parent, followed, ancestors}
+use Rattle.pz_env_mimics.specs.pz_classes_rules.Members.{own_fields, own_variables, own_ports, from_root, fields, variables, ports}
+use Rattle.pz_env_mimics.specs.pz_classes_rules.Methods.{nearest}
+use Rattle.pz_env_mimics.specs.pz_classes_rules.Reached.{AncestorsAreReached}
+use Rattle.pz_env_mimics.specs.pz_classes_rules.Soundness.{IsSound}
 use Rattle.pz_env_grown.specs.Growth.{Grown}
 use Rattle.pz_env_grown.proofs.Elements.{first_in, later_in}
 use Rattle.pz_env_grown.proofs.Alike.{of_both, IsDeclared, of_declared}

@@ -1,16 +1,16 @@
 -- The method that a name and its counts mean has the same body, and a process starts with the same call.
 use Rattle.std.proofs.Common.{◌≡◌, refl, sym, ap, ◌∙◌, ℕ, suc, List, [], ◌∷◌, length, map, Option, Some, None}
 use Rattle.std.specs.Option.{unwrap_or, option_map, option_map_or, option_and_then}
-use Rattle.pz_syntax.specs.Classes.{StartTree, ProcessMethodTree, DeclTree, data_class, process_class, cluster_class, system, ModelTree}
-use Rattle.pz_classes.specs.declared.method_id.Counts.TheVariants.{Data, Process}
-use Rattle.pz_classes.specs.Numbers.{declaration}
-use Rattle.pz_classes.specs.Ancestors.{ancestors}
-use Rattle.pz_classes.specs.Methods.{Signature, data_signature, process_signature, nearest}
-use Rattle.pz_classes.specs.Soundness.{IsSound}
-use Rattle.pz_classes.specs.Reached.{AncestorsAreReached}
-use Rattle.pz_classes.specs.Bodies.{data_body, process_body, data_scope, process_scope, data_locals, process_locals}
-use Rattle.pz_classes.specs.Starts.{own_start, start_call, own_call, init}
-use Rattle.pz_classes.specs.MethodBodies.{data_method_in, process_method_in, own_methods, first_body, own_body, body_with, method_body, process_method_body}
+use Rattle.pz_env_mimics.specs.pz_syntax.Classes.{StartTree, ProcessMethodTree, DeclTree, data_class, process_class, cluster_class, system, ModelTree}
+use Rattle.pz_env_mimics.specs.pz_classes_rules.declared.method_id.Counts.TheVariants.{Data, Process}
+use Rattle.pz_env_mimics.specs.pz_classes_rules.Numbers.{declaration}
+use Rattle.pz_env_mimics.specs.pz_classes_rules.Ancestors.{ancestors}
+use Rattle.pz_env_mimics.specs.pz_classes_rules.Methods.{Signature, data_signature, process_signature, nearest}
+use Rattle.pz_env_mimics.specs.pz_classes_rules.Soundness.{IsSound}
+use Rattle.pz_env_mimics.specs.pz_classes_rules.Reached.{AncestorsAreReached}
+use Rattle.pz_env_mimics.specs.pz_classes_rules.Bodies.{data_body, process_body, data_scope, process_scope, data_locals, process_locals}
+use Rattle.pz_env_mimics.specs.pz_classes_rules.Starts.{own_start, start_call, own_call, init}
+use Rattle.pz_env_mimics.specs.pz_classes_rules.MethodBodies.{data_method_in, process_method_in, own_methods, first_body, own_body, body_with, method_body, process_method_body}
 use Rattle.pz_env_grown.specs.Growth.{Alike, same, systems, Both, old, nothing, new, Grown}
 use Rattle.pz_env_grown.proofs.Alike.{became, IsDeclared}
 use Rattle.pz_env_joined.proofs.Members.{nearest_same, line_declared, line_same}

@@ -4,12 +4,12 @@ use Rattle.std.specs.Option.{option_map, option_or, unwrap_or}
 use Rattle.std.specs.List.{sum_by}
 use Rattle.std.proofs.lemmas.List.{length-map}
 use Rattle.std.proofs.lemmas.List.Sums.{sum_by-cons}
-use Rattle.pz_syntax.specs.Classes.{DeclTree, data_class, process_class, cluster_class, system, ModelTree}
-use Rattle.pz_classes.specs.declared.method_id.MethodId.{MethodId}
-use Rattle.pz_classes.specs.Ancestors.{ancestors}
-use Rattle.pz_classes.specs.Methods.{Signature, signatures, data_signature, process_signature, same_signature, methods_before, first_with, method_id, own_method, nearest, method_with}
-use Rattle.pz_classes.specs.Bodies.{BodyTree, data_scope, process_scope, data_body_in, process_body_in, own_bodies, bodies_from, bodies}
-use Rattle.pz_classes.specs.MethodBodies.{Method, data_method_in, process_method_in, own_methods, first_body, own_body, body_with, HasBody}
+use Rattle.pz_env_mimics.specs.pz_syntax.Classes.{DeclTree, data_class, process_class, cluster_class, system, ModelTree}
+use Rattle.pz_env_mimics.specs.pz_classes_rules.declared.method_id.MethodId.{MethodId}
+use Rattle.pz_env_mimics.specs.pz_classes_rules.Ancestors.{ancestors}
+use Rattle.pz_env_mimics.specs.pz_classes_rules.Methods.{Signature, signatures, data_signature, process_signature, same_signature, methods_before, first_with, method_id, own_method, nearest, method_with}
+use Rattle.pz_env_mimics.specs.pz_classes_rules.Bodies.{BodyTree, data_scope, process_scope, data_body_in, process_body_in, own_bodies, bodies_from, bodies}
+use Rattle.pz_env_mimics.specs.pz_classes_rules.MethodBodies.{Method, data_method_in, process_method_in, own_methods, first_body, own_body, body_with, HasBody}
 use Rattle.pz_env_joined.proofs.Places.{got_first}
 
 map_twice : {A B C : Type 0} (f : B → C) (g : A → B) (h : A → C) → ((x : A) → f (g x) ≡ h x) → (xs : List A) → map f (map g xs) ≡ map h xs

@@ -3,15 +3,15 @@ use Rattle.std.proofs.Common.{◌≡◌, refl, ap, ℕ, suc, List, [], ◌∷◌
 use Rattle.std.specs.List.{Contains}
 use Rattle.std.specs.Option.{option_map}
 use Rattle.std.proofs.lemmas.List.Elements.{Contains-append_left, Contains-append_right}
-use Rattle.pz_syntax.specs.declared.names.Id.{Id}
-use Rattle.pz_syntax.specs.Expressions.{Expression, literal, variable, me, clock, creation, group, chain, sends, unary, assign, returned, choice, loop, Expressions, none, more, Part, left_out, written, Links, no_links, link, Sendings, no_sendings, sending}
-use Rattle.pz_syntax.specs.Statements.{Statement, skip, delay, bracketed, block, guarded, parallel, select, conditional, repeated, abort, interrupt, send, receive, call, assignment, value, Statements, no_statements, then, StatementPart, not_written, otherwise, Branches, no_branches, branch}
+use Rattle.pz_env_mimics.specs.pz_syntax.declared.names.Id.{Id}
+use Rattle.pz_env_mimics.specs.pz_syntax.Expressions.{Expression, literal, variable, me, clock, creation, group, chain, sends, unary, assign, returned, choice, loop, Expressions, none, more, Part, left_out, written, Links, no_links, link, Sendings, no_sendings, sending}
+use Rattle.pz_env_mimics.specs.pz_syntax.Statements.{Statement, skip, delay, bracketed, block, guarded, parallel, select, conditional, repeated, abort, interrupt, send, receive, call, assignment, value, Statements, no_statements, then, StatementPart, not_written, otherwise, Branches, no_branches, branch}
 use Rattle.pz_classes_mentions.specs.declared.mention.Mention.{Mention}
 use Rattle.pz_classes_mentions.specs.declared.mention.Mention.TheVariants as w
 use Rattle.pz_classes_mentions.specs.Expressions.{count, count_written, mentioned, mentioned_all, mentioned_part, mentioned_links, mentioned_sendings}
 use Rattle.pz_classes_mentions.specs.Statements.{variables, received, mentioned_condition, mentioned_statements, mentioned_otherwise, mentioned_branches}
 use Rattle.pz_classes_mentions.specs.Statements as statement
-use Rattle.pz_classes_code.specs.Resolution.{Scope, class_of, resolved, resolved_all, resolved_part, resolved_links, resolved_sendings, resolved_statement, resolved_statements, resolved_otherwise, resolved_branches}
+use Rattle.pz_env_mimics.specs.pz_classes_code.Resolution.{Scope, class_of, resolved, resolved_all, resolved_part, resolved_links, resolved_sendings, resolved_statement, resolved_statements, resolved_otherwise, resolved_branches}
 
 -- the same names, but for those of classes
 module _ (locals shared ports one_classes other_classes : List ℕ → Option ℕ) where

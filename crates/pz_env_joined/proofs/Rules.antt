@@ -1,29 +1,29 @@
 -- The closed model has the rules of the one with the further channels.
 use Rattle.std.proofs.Common.{◌≡◌, refl, sym, ap, ◌∙◌, inl, inr, subst, ℕ, zero, suc, ◌<◌, Bool, true, false, List, [], ◌∷◌, ◌++◌, length, Some, None, slice_get, arith}
 use Rattle.std.specs.List.{filter}
-use Rattle.pz_syntax.specs.declared.names.Id.{Id}
-use Rattle.pz_syntax.specs.Classes.{ModelTree}
-use Rattle.pz_classes.specs.Numbers.{class}
-use Rattle.pz_classes.specs.Members.{ports, spelled}
-use Rattle.pz_classes.specs.Reached.{AncestorsAreReached}
-use Rattle.pz_classes.specs.Soundness.{IsSound}
-use Rattle.pz_classes.specs.SoundSystem.{SystemFits}
-use Rattle.pz_classes.specs.Starts.{init}
+use Rattle.pz_env_mimics.specs.pz_syntax.declared.names.Id.{Id}
+use Rattle.pz_env_mimics.specs.pz_syntax.Classes.{ModelTree}
+use Rattle.pz_env_mimics.specs.pz_classes_rules.Numbers.{class}
+use Rattle.pz_env_mimics.specs.pz_classes_rules.Members.{ports, spelled}
+use Rattle.pz_env_mimics.specs.pz_classes_rules.Reached.{AncestorsAreReached}
+use Rattle.pz_env_mimics.specs.pz_classes_rules.Soundness.{IsSound}
+use Rattle.pz_env_mimics.specs.pz_classes_rules.SoundSystem.{SystemFits}
+use Rattle.pz_env_mimics.specs.pz_classes_rules.Starts.{init}
 use Rattle.pz_classes_openings.specs.OpeningRules.{Opens}
 use Rattle.pz_bind_levels.specs.Places.{Address}
-use Rattle.pz_bind.specs.Nest.{class_at, places, is_process_at, processes}
-use Rattle.pz_bind.specs.Connections.{end}
-use Rattle.pz_bind.specs.Wires.{wires}
-use Rattle.pz_rules.specs.CallLaws.{CallsUnfold}
-use Rattle.pz_rules.specs.Openable.{IsProcessClass}
-use Rattle.pz_rules.specs.Opening.{depth_of}
-use Rattle.pz_rules.specs.Ports.{IsWire}
-use Rattle.pz_env_script.specs.declared.entry.Entry.{Entry}
-use Rattle.pz_env_tree.specs.pz_env_rules.Environment.{Line, lines_of}
-use Rattle.pz_env_tree.specs.pz_env_rules.Joining.{joined}
-use Rattle.pz_env_tree.specs.Names.{class_name}
-use Rattle.pz_env_tree.specs.ClosedTree.{environment, closed_by}
-use Rattle.pz_env_tree.specs.Refusals.{IsFirstRefused}
+use Rattle.pz_env_mimics.specs.pz_bind_rules.Nest.{class_at, places, is_process_at, processes}
+use Rattle.pz_env_mimics.specs.pz_bind_rules.Connections.{end}
+use Rattle.pz_env_mimics.specs.pz_bind_rules.Wires.{wires}
+use Rattle.pz_env_mimics.specs.pz_rules.CallLaws.{CallsUnfold}
+use Rattle.pz_env_mimics.specs.pz_rules.Openable.{IsProcessClass}
+use Rattle.pz_env_mimics.specs.pz_rules.Opening.{depth_of}
+use Rattle.pz_env_mimics.specs.pz_rules.Ports.{IsWire}
+use Rattle.pz_env_mimics.specs.pz_env_script.declared.entry.Entry.{Entry}
+use Rattle.pz_env_mimics.specs.pz_env_rules.Environment.{Line, lines_of}
+use Rattle.pz_env_mimics.specs.pz_env_rules.Joining.{joined}
+use Rattle.pz_env_mimics.specs.pz_env_tree.Names.{class_name}
+use Rattle.pz_env_mimics.specs.pz_env_tree.ClosedTree.{environment, closed_by}
+use Rattle.pz_env_mimics.specs.pz_env_tree.Refusals.{IsFirstRefused}
 use Rattle.pz_env_same.specs.SameRules.{SameData, SameClass, SameProcess, SameRules}
 use Rattle.pz_env_grown.specs.Growth.{Grown}
 use Rattle.pz_env_grown.proofs.Alike.{IsDeclared}

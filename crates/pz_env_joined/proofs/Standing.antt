@@ -3,22 +3,22 @@ use Rattle.std.proofs.Common.{◌≡◌, refl, sym, ap, ◌∙◌, ℕ, Bool, tr
 use Rattle.std.specs.Prelude.{codes, if◌then◌else◌}
 use Rattle.std.specs.Option.{option_map_or, unwrap_or}
 use Rattle.std.specs.Str.{bytes_eq}
-use Rattle.pz_syntax.specs.declared.clusters.Instance.{Instance}
-use Rattle.pz_syntax.specs.declared.clusters.Arg.{Arg}
-use Rattle.pz_syntax.specs.declared.clusters.Arg.TheVariants.{Plain, Negated, Parameter}
-use Rattle.pz_syntax.specs.declared.clusters.Given.{Given}
-use Rattle.pz_syntax.specs.declared.names.Id.{Id}
-use Rattle.pz_syntax.specs.Classes.{ModelTree}
-use Rattle.pz_value.specs.declared.value.Value.{Value}
-use Rattle.pz_value.specs.declared.value.Value.TheVariants.{Nil}
-use Rattle.pz_classes.specs.Members.{variables, spelled}
-use Rattle.pz_classes.specs.Reached.{AncestorsAreReached}
-use Rattle.pz_classes.specs.Soundness.{IsSound}
-use Rattle.pz_classes.specs.SoundSystem.{SystemFits}
+use Rattle.pz_env_mimics.specs.pz_syntax.declared.clusters.Instance.{Instance}
+use Rattle.pz_env_mimics.specs.pz_syntax.declared.clusters.Arg.{Arg}
+use Rattle.pz_env_mimics.specs.pz_syntax.declared.clusters.Arg.TheVariants.{Plain, Negated, Parameter}
+use Rattle.pz_env_mimics.specs.pz_syntax.declared.clusters.Given.{Given}
+use Rattle.pz_env_mimics.specs.pz_syntax.declared.names.Id.{Id}
+use Rattle.pz_env_mimics.specs.pz_syntax.Classes.{ModelTree}
+use Rattle.pz_env_mimics.specs.pz_value.declared.value.Value.{Value}
+use Rattle.pz_env_mimics.specs.pz_value.declared.value.Value.TheVariants.{Nil}
+use Rattle.pz_env_mimics.specs.pz_classes_rules.Members.{variables, spelled}
+use Rattle.pz_env_mimics.specs.pz_classes_rules.Reached.{AncestorsAreReached}
+use Rattle.pz_env_mimics.specs.pz_classes_rules.Soundness.{IsSound}
+use Rattle.pz_env_mimics.specs.pz_classes_rules.SoundSystem.{SystemFits}
 use Rattle.pz_bind_levels.specs.Places.{Address}
-use Rattle.pz_bind.specs.Nest.{system_class, instances_in, class_at, instance_at}
-use Rattle.pz_bind.specs.Names.{name_at, path}
-use Rattle.pz_bind.specs.Values.{argument_value, given_value, parameter_at, values_at}
+use Rattle.pz_env_mimics.specs.pz_bind_rules.Nest.{system_class, instances_in, class_at, instance_at}
+use Rattle.pz_env_mimics.specs.pz_bind_rules.Names.{name_at, path}
+use Rattle.pz_env_mimics.specs.pz_bind_rules.Values.{argument_value, given_value, parameter_at, values_at}
 use Rattle.pz_env_grown.specs.Growth.{Grown}
 use Rattle.pz_env_joined.proofs.Members.{variables_same}
 use Rattle.pz_env_joined.proofs.Places.{Stands, inside_of, class_at_same, instance_kept, declared_at}

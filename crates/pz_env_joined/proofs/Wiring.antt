@@ -3,18 +3,18 @@
 use Rattle.std.proofs.Common.{◌≡◌, refl, sym, ap, ◌∙◌, subst, ℕ, zero, suc, Bool, ◌||◌, List, [], ◌∷◌, ◌++◌, length, Option, Some, slice_get, arith}
 use Rattle.std.specs.Prelude.{if◌then◌else◌}
 use Rattle.std.specs.List.{list_any, flat_map, AllByRecursion}
-use Rattle.pz_syntax.specs.declared.clusters.Instance.{Instance}
-use Rattle.pz_syntax.specs.declared.clusters.Channel.{Channel as Written}
-use Rattle.pz_syntax.specs.declared.clusters.ChannelEnd.{ChannelEnd}
-use Rattle.pz_syntax.specs.declared.clusters.ChannelEnd.TheVariants.{Inner, Outer}
-use Rattle.pz_syntax.specs.Classes.{ModelTree}
+use Rattle.pz_env_mimics.specs.pz_syntax.declared.clusters.Instance.{Instance}
+use Rattle.pz_env_mimics.specs.pz_syntax.declared.clusters.Channel.{Channel as Written}
+use Rattle.pz_env_mimics.specs.pz_syntax.declared.clusters.ChannelEnd.{ChannelEnd}
+use Rattle.pz_env_mimics.specs.pz_syntax.declared.clusters.ChannelEnd.TheVariants.{Inner, Outer}
+use Rattle.pz_env_mimics.specs.pz_syntax.Classes.{ModelTree}
 use Rattle.std.specs.Option.{option_map_or}
 use Rattle.pz_bind_levels.specs.Places.{Address}
 use Rattle.pz_bind_levels.specs.Wires.{Channel, channel}
-use Rattle.pz_bind.specs.Nest.{instance_at, channels_at, levels}
-use Rattle.pz_bind.specs.Names.{name_at}
-use Rattle.pz_bind.specs.Connections.{PortEnd, end, names_inner, names_outer, IsIn, is_in, Joined, joined, Leads, itself, outwards}
-use Rattle.pz_bind.specs.Wires.{is_carried_on, is_joined, ending, wires_at, wires, HasWire}
+use Rattle.pz_env_mimics.specs.pz_bind_rules.Nest.{instance_at, channels_at, levels}
+use Rattle.pz_env_mimics.specs.pz_bind_rules.Names.{name_at}
+use Rattle.pz_env_mimics.specs.pz_bind_rules.Connections.{PortEnd, end, names_inner, names_outer, IsIn, is_in, Joined, joined, Leads, itself, outwards}
+use Rattle.pz_env_mimics.specs.pz_bind_rules.Wires.{is_carried_on, is_joined, ending, wires_at, wires, HasWire}
 
 -- channels that name the same ports of this instance, and the same of their own cluster
 pub data AreLike (name : List ℕ) : List Written → List Written → Type 0 where

@@ -1,15 +1,15 @@
 -- Laws of closed models, of a sound model whose openings end and are not too large, and of a script that may
 -- drive its system.
 use Rattle.std.specs.Prelude.{◌<◌, ◌^◌, List, length}
-use Rattle.pz_syntax.specs.Classes.{ModelTree}
-use Rattle.pz_classes.specs.Soundness.{IsSound}
+use Rattle.pz_env_mimics.specs.pz_syntax.Classes.{ModelTree}
+use Rattle.pz_env_mimics.specs.pz_classes_rules.Soundness.{IsSound}
 use Rattle.pz_classes_openings.specs.OpeningRules.{Opens}
-use Rattle.pz_rules.specs.declared.limits.Limits.{Limits}
-use Rattle.pz_env_script.specs.declared.entry.Entry.{Entry}
-use Rattle.pz_env_script.specs.Scripts.{IsWritten}
-use Rattle.pz_env_tree.specs.pz_env_rules.Environment.{lines_of}
-use Rattle.pz_env_tree.specs.pz_env_rules.Joining.{joined, driving}
-use Rattle.pz_env_tree.specs.ClosedTree.{closed_tree}
+use Rattle.pz_env_mimics.specs.pz_rules.declared.limits.Limits.{Limits}
+use Rattle.pz_env_mimics.specs.pz_env_script.declared.entry.Entry.{Entry}
+use Rattle.pz_env_mimics.specs.pz_env_script.Scripts.{IsWritten}
+use Rattle.pz_env_mimics.specs.pz_env_rules.Environment.{lines_of}
+use Rattle.pz_env_mimics.specs.pz_env_rules.Joining.{joined, driving}
+use Rattle.pz_env_mimics.specs.pz_env_tree.ClosedTree.{closed_tree}
 use Rattle.pz_env_same.specs.SameRules.{SameRules}
 use Rattle.pz_env_mimics.specs.Environments.{HasEnvironment}
 use Rattle.pz_env_mimics.specs.Closing.{MayDrive, Closes}

@@ -1,20 +1,20 @@
 -- What the closed model has: all that the model with the further channels has, and one process more.
 use Rattle.std.specs.Prelude.{◌≡◌, ℕ, suc, List, [], ◌∷◌, ◌++◌, length, map, Some}
-use Rattle.pz_syntax.specs.Classes.{ModelTree}
-use Rattle.pz_classes.specs.Numbers.{class}
-use Rattle.pz_classes.specs.Members.{variables, ports}
-use Rattle.pz_classes.specs.Tables.{class_names}
+use Rattle.pz_env_mimics.specs.pz_syntax.Classes.{ModelTree}
+use Rattle.pz_env_mimics.specs.pz_classes_rules.Numbers.{class}
+use Rattle.pz_env_mimics.specs.pz_classes_rules.Members.{variables, ports}
+use Rattle.pz_env_mimics.specs.pz_classes_rules.ClassNames.{class_names}
 use Rattle.pz_bind_levels.specs.Places.{Address}
-use Rattle.pz_bind.specs.Nest.{class_at, instances_at, processes}
-use Rattle.pz_bind.specs.Wires.{wires}
-use Rattle.pz_env_script.specs.declared.entry.Entry.{Entry}
-use Rattle.pz_env_tree.specs.pz_env_rules.Environment.{Line}
-use Rattle.pz_env_tree.specs.pz_env_rules.Ends.{first_mentions}
-use Rattle.pz_env_tree.specs.pz_env_rules.Joining.{joined}
-use Rattle.pz_env_tree.specs.Names.{class_name, variable_name, port_of}
-use Rattle.pz_env_tree.specs.EnvironmentClass.{named}
-use Rattle.pz_env_tree.specs.ClosedTree.{closed_by}
-use Rattle.pz_env_tree.specs.Refusals.{IsFirstRefused}
+use Rattle.pz_env_mimics.specs.pz_bind_rules.Nest.{class_at, instances_at, processes}
+use Rattle.pz_env_mimics.specs.pz_bind_rules.Wires.{wires}
+use Rattle.pz_env_mimics.specs.pz_env_script.declared.entry.Entry.{Entry}
+use Rattle.pz_env_mimics.specs.pz_env_rules.Environment.{Line}
+use Rattle.pz_env_mimics.specs.pz_env_rules.Ends.{first_mentions}
+use Rattle.pz_env_mimics.specs.pz_env_rules.Joining.{joined}
+use Rattle.pz_env_mimics.specs.pz_env_tree.Names.{class_name, variable_name, port_of}
+use Rattle.pz_env_mimics.specs.pz_env_tree.EnvironmentClass.{named}
+use Rattle.pz_env_mimics.specs.pz_env_tree.ClosedTree.{closed_by}
+use Rattle.pz_env_mimics.specs.pz_env_tree.Refusals.{IsFirstRefused}
 
 -- the script may drive the system of the model
 abbrev pub IsAccepted : ModelTree → List Entry → Type 0

@@ -7,16 +7,16 @@ ghost use Rattle.pz_env_joined.specs.Laws.{ClosedHasSameRules, ClosedHasOneMore,
 pub fn closed_has_same_rules()
     ensures law { ClosedHasSameRules }
 {
-    pz_classes::laws::ancestors_are_reached();
-    pz_classes::laws::sound_systems_fit();
-    pz_rules::laws::calls_unfold();
+    pz_env_mimics::pz_classes_rules::laws::ancestors_are_reached();
+    pz_env_mimics::pz_classes_rules::laws::sound_systems_fit();
+    pz_env_mimics::pz_rules::laws::calls_unfold();
 }
 
 /// It has one class and one process more, behind all others, and the same wires.
 pub fn closed_has_one_more()
     ensures law { ClosedHasOneMore }
 {
-    pz_classes::laws::sound_systems_fit();
+    pz_env_mimics::pz_classes_rules::laws::sound_systems_fit();
 }
 
 /// That process is the environment: its one method does the lines of the script, and the wire of the port
@@ -24,9 +24,9 @@ pub fn closed_has_one_more()
 pub fn closed_has_environment()
     ensures law { ClosedHasEnvironment }
 {
-    pz_classes::laws::ancestors_are_reached();
-    pz_classes::laws::sound_systems_fit();
-    pz_rules::laws::calls_unfold();
+    pz_env_mimics::pz_classes_rules::laws::ancestors_are_reached();
+    pz_env_mimics::pz_classes_rules::laws::sound_systems_fit();
+    pz_env_mimics::pz_rules::laws::calls_unfold();
 }
 
 /// So the model that a written script closes stands for the driven system, under limits that an environment

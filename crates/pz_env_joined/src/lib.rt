@@ -2,3 +2,6 @@
 #![tactic(auto)]
 
 pub mod laws;
+
+pub use pz_env_mimics;
+pub use pz_env_mimics::pz_env_script;

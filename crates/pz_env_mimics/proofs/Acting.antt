@@ -1,23 +1,23 @@
 -- What the environment does in a configuration, and that it can.
 use Rattle.std.proofs.Common.{◌≡◌, ◌<◌, ℕ, List, [], ◌∷◌, length, Result, Ok, refl, sym, ap, subst, ◌∙◌}
 use Rattle.std.proofs.lemmas.Option.{slice_get_within}
-use Rattle.pz_syntax.specs.declared.tokens.Pos.{Pos}
-use Rattle.pz_syntax.specs.Classes.{ModelTree}
-use Rattle.pz_value.specs.declared.value.Value.{Value}
-use Rattle.pz_bind.specs.Nest.{processes}
-use Rattle.pz_copy.specs.Parcels.{ParcelView}
-use Rattle.pz_offer.specs.declared.end.End.{End}
-use Rattle.pz_offer.specs.PlaceOrder.{Place}
-use Rattle.pz_offer.specs.declared.trouble.Trouble.{Trouble}
-use Rattle.pz_rules.specs.Terms.{Term, leaf}
-use Rattle.pz_rules.specs.Settings.{Process, Context}
-use Rattle.pz_rules.specs.Active.{IsActive}
-use Rattle.pz_rules.specs.Meanings.{and_then}
-use Rattle.pz_rules.specs.InternalActions.{done_in, Performs}
-use Rattle.pz_rules.specs.Leaving.{settled}
-use Rattle.pz_rules.specs.Messages.{Hands, Takes}
-use Rattle.pz_rules.specs.Configurations.{Config}
-use Rattle.pz_rules.specs.Steps.{Deed, Acts}
+use Rattle.pz_env_tree.specs.pz_syntax.declared.tokens.Pos.{Pos}
+use Rattle.pz_env_tree.specs.pz_syntax.Classes.{ModelTree}
+use Rattle.pz_env_tree.specs.pz_value.declared.value.Value.{Value}
+use Rattle.pz_env_tree.specs.pz_bind_rules.Nest.{processes}
+use Rattle.pz_env_tree.specs.pz_copy.Parcels.{ParcelView}
+use Rattle.pz_env_tree.specs.pz_offer.declared.end.End.{End}
+use Rattle.pz_env_tree.specs.pz_offer.PlaceOrder.{Place}
+use Rattle.pz_env_tree.specs.pz_offer.declared.trouble.Trouble.{Trouble}
+use Rattle.pz_env_tree.specs.pz_rules.Terms.{Term, leaf}
+use Rattle.pz_env_tree.specs.pz_rules.Settings.{Process, Context}
+use Rattle.pz_env_tree.specs.pz_rules.Active.{IsActive}
+use Rattle.pz_env_tree.specs.pz_rules.Meanings.{and_then}
+use Rattle.pz_env_tree.specs.pz_rules.InternalActions.{done_in, Performs}
+use Rattle.pz_env_tree.specs.pz_rules.Leaving.{settled}
+use Rattle.pz_env_tree.specs.pz_rules.Messages.{Hands, Takes}
+use Rattle.pz_env_tree.specs.pz_rules.Configurations.{Config}
+use Rattle.pz_env_tree.specs.pz_rules.Steps.{Deed, Acts}
 use Rattle.pz_env_tree.specs.pz_env_rules.Environment.{Line, at_line, Doing, waits, offers, begins}
 use Rattle.pz_env_tree.specs.pz_env_rules.Joining.{Driving}
 use Rattle.pz_env_tree.specs.pz_env_rules.Driven.{Driven, plain, Gives, Gets}

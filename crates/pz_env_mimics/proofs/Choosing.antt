@@ -1,12 +1,12 @@
 -- What a policy chooses of both is the same.
 use Rattle.std.proofs.Common.{◌≡◌, ℕ, suc, List, [], ◌∷◌, Ok, Err, refl, sym, ap, subst, ◌∙◌}
-use Rattle.pz_syntax.specs.Classes.{ModelTree}
-use Rattle.pz_rules.specs.declared.moment.Moment.{Moment}
-use Rattle.pz_rules.specs.Configurations.{Config}
-use Rattle.pz_rules.specs.Steps.{Next}
-use Rattle.pz_rules.specs.Runs.{Event, acted, passed, Ending}
-use Rattle.pz_rules.specs.ChosenRuns as chosen
-use Rattle.pz_rules.specs.ChosenRuns.{Policy, Decision, decided, stops_with, takes, waits, IsChosenRun}
+use Rattle.pz_env_tree.specs.pz_syntax.Classes.{ModelTree}
+use Rattle.pz_env_tree.specs.pz_rules.declared.moment.Moment.{Moment}
+use Rattle.pz_env_tree.specs.pz_rules.Configurations.{Config}
+use Rattle.pz_env_tree.specs.pz_rules.Steps.{Next}
+use Rattle.pz_env_tree.specs.pz_rules.Runs.{Event, acted, passed, Ending}
+use Rattle.pz_env_tree.specs.pz_rules.ChosenRuns as chosen
+use Rattle.pz_env_tree.specs.pz_rules.ChosenRuns.{Policy, Decision, decided, stops_with, takes, waits, IsChosenRun}
 use Rattle.pz_env_tree.specs.pz_env_rules.Joining.{Driving}
 use Rattle.pz_env_tree.specs.pz_env_rules.Driven.{Driven}
 use Rattle.pz_env_tree.specs.pz_env_rules.Steps.{DrivenNext}

@@ -1,27 +1,27 @@
 -- What the acting part of the environment does.
 use Rattle.std.proofs.Common.{◌≡◌, ◌<◌, ◌≤◌, ◌+◌, ◌⊎◌, inl, inr, ℕ, List, [], length, replicate, None, Result, Ok, All, refl, sym, ap, subst, ◌∙◌, arith}
 use Rattle.std.proofs.lemmas.Bool.{cases_lt}
-use Rattle.pz_syntax.specs.declared.tokens.Pos.{Pos}
-use Rattle.pz_syntax.specs.declared.exprs.Literal.TheVariants as literal
-use Rattle.pz_syntax.specs.Expressions as expression
-use Rattle.pz_value.specs.declared.value.Value.{Value}
-use Rattle.pz_classes_code.specs.declared.slot.Slot.TheVariants.{Shared}
-use Rattle.pz_state.specs.States.{StateView, object_limit}
-use Rattle.pz_state.specs.declared.fault.FaultKind.TheVariants.{StoreFull}
-use Rattle.pz_copy.specs.Parcels.{ParcelView}
-use Rattle.pz_copy.specs.Packing.{IsParcelOf}
-use Rattle.pz_offer.specs.declared.trouble.Trouble.{Trouble}
-use Rattle.pz_offer.specs.declared.trouble.Trouble.TheVariants.{Spent}
-use Rattle.pz_rules.specs.Terms.{Term, done, leaf}
-use Rattle.pz_rules.specs.Settings.{Context, Process}
-use Rattle.pz_rules.specs.Meanings.{and_then, fault}
-use Rattle.pz_rules.specs.InternalActions as actions
-use Rattle.pz_rules.specs.InternalActions.{done_in, Performs}
-use Rattle.pz_rules.specs.Messages as messages
-use Rattle.pz_rules.specs.Messages.{Fits, bound, Hands, Takes}
-use Rattle.pz_env_script.specs.declared.entry.Transfer.{Transfer}
-use Rattle.pz_env_script.specs.declared.entry.Transfer.TheVariants.{Send, Receive}
-use Rattle.pz_env_script.specs.Entries.{values_in}
+use Rattle.pz_env_tree.specs.pz_syntax.declared.tokens.Pos.{Pos}
+use Rattle.pz_env_tree.specs.pz_syntax.declared.exprs.Literal.TheVariants as literal
+use Rattle.pz_env_tree.specs.pz_syntax.Expressions as expression
+use Rattle.pz_env_tree.specs.pz_value.declared.value.Value.{Value}
+use Rattle.pz_env_tree.specs.pz_classes_code.declared.slot.Slot.TheVariants.{Shared}
+use Rattle.pz_env_tree.specs.pz_state.States.{StateView, object_limit}
+use Rattle.pz_env_tree.specs.pz_state.declared.fault.FaultKind.TheVariants.{StoreFull}
+use Rattle.pz_env_tree.specs.pz_copy.Parcels.{ParcelView}
+use Rattle.pz_env_tree.specs.pz_copy.Packing.{IsParcelOf}
+use Rattle.pz_env_tree.specs.pz_offer.declared.trouble.Trouble.{Trouble}
+use Rattle.pz_env_tree.specs.pz_offer.declared.trouble.Trouble.TheVariants.{Spent}
+use Rattle.pz_env_tree.specs.pz_rules.Terms.{Term, done, leaf}
+use Rattle.pz_env_tree.specs.pz_rules.Settings.{Context, Process}
+use Rattle.pz_env_tree.specs.pz_rules.Meanings.{and_then, fault}
+use Rattle.pz_env_tree.specs.pz_rules.InternalActions as actions
+use Rattle.pz_env_tree.specs.pz_rules.InternalActions.{done_in, Performs}
+use Rattle.pz_env_tree.specs.pz_rules.Messages as messages
+use Rattle.pz_env_tree.specs.pz_rules.Messages.{Fits, bound, Hands, Takes}
+use Rattle.pz_env_tree.specs.pz_env_script.declared.entry.Transfer.{Transfer}
+use Rattle.pz_env_tree.specs.pz_env_script.declared.entry.Transfer.TheVariants.{Send, Receive}
+use Rattle.pz_env_tree.specs.pz_env_script.Entries.{values_in}
 use Rattle.pz_env_tree.specs.pz_env_rules.Environment.{Line, at_line}
 use Rattle.pz_env_tree.specs.pz_env_rules.Ends.{named_at}
 use Rattle.pz_env_tree.specs.EnvironmentClass.{unless_none}

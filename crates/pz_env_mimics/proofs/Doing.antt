@@ -1,23 +1,23 @@
 -- What an environment says where it does something, as a process.
 use Rattle.std.proofs.Common.{◌≡◌, ◌<◌, ◌≤◌, ℕ, Bool, true, List, [], ◌∷◌, length, Result, Ok, All, refl, sym, ap, subst}
-use Rattle.pz_syntax.specs.declared.tokens.Pos.{Pos}
-use Rattle.pz_value.specs.declared.value.Value.{Value}
-use Rattle.pz_copy.specs.Parcels.{ParcelView}
-use Rattle.pz_offer.specs.PlaceOrder.{Place}
-use Rattle.pz_offer.specs.declared.trouble.Trouble.{Trouble}
-use Rattle.pz_offer.specs.declared.trouble.Trouble.TheVariants.{Spent}
-use Rattle.pz_rules.specs.declared.action.Kind.{Kind}
-use Rattle.pz_rules.specs.declared.action.Kind.TheVariants.{Expire}
-use Rattle.pz_rules.specs.Terms.{Term, leaf}
-use Rattle.pz_rules.specs.Settings.{Context}
-use Rattle.pz_rules.specs.Active.{IsActive}
-use Rattle.pz_rules.specs.InternalActions.{Can}
-use Rattle.pz_rules.specs.Messages.{Sends, Receives, Judges}
-use Rattle.pz_rules.specs.Asking.{Asks}
-use Rattle.pz_rules.specs.Delays.{Delays}
-use Rattle.pz_env_script.specs.declared.entry.Transfer.{Transfer}
-use Rattle.pz_env_script.specs.declared.entry.Transfer.TheVariants.{Send, Receive}
-use Rattle.pz_env_script.specs.Entries.{values_in}
+use Rattle.pz_env_tree.specs.pz_syntax.declared.tokens.Pos.{Pos}
+use Rattle.pz_env_tree.specs.pz_value.declared.value.Value.{Value}
+use Rattle.pz_env_tree.specs.pz_copy.Parcels.{ParcelView}
+use Rattle.pz_env_tree.specs.pz_offer.PlaceOrder.{Place}
+use Rattle.pz_env_tree.specs.pz_offer.declared.trouble.Trouble.{Trouble}
+use Rattle.pz_env_tree.specs.pz_offer.declared.trouble.Trouble.TheVariants.{Spent}
+use Rattle.pz_env_tree.specs.pz_rules.declared.action.Kind.{Kind}
+use Rattle.pz_env_tree.specs.pz_rules.declared.action.Kind.TheVariants.{Expire}
+use Rattle.pz_env_tree.specs.pz_rules.Terms.{Term, leaf}
+use Rattle.pz_env_tree.specs.pz_rules.Settings.{Context}
+use Rattle.pz_env_tree.specs.pz_rules.Active.{IsActive}
+use Rattle.pz_env_tree.specs.pz_rules.InternalActions.{Can}
+use Rattle.pz_env_tree.specs.pz_rules.Messages.{Sends, Receives, Judges}
+use Rattle.pz_env_tree.specs.pz_rules.Asking.{Asks}
+use Rattle.pz_env_tree.specs.pz_rules.Delays.{Delays}
+use Rattle.pz_env_tree.specs.pz_env_script.declared.entry.Transfer.{Transfer}
+use Rattle.pz_env_tree.specs.pz_env_script.declared.entry.Transfer.TheVariants.{Send, Receive}
+use Rattle.pz_env_tree.specs.pz_env_script.Entries.{values_in}
 use Rattle.pz_env_tree.specs.pz_env_rules.Environment.{Line, at_line, Doing, waits, offers}
 use Rattle.pz_env_mimics.specs.Environments.{exchange, IsPlain}
 use Rattle.pz_env_mimics.specs.Closing.{MayDrive}

@@ -1,13 +1,13 @@
 -- What the environment becomes as time passes, as a process.
 use Rattle.std.proofs.Common.{◌≡◌, ◌-◌, ℕ, true, false, List, [], ◌∷◌, Ok, refl, sym, ap, subst}
-use Rattle.pz_syntax.specs.declared.exprs.Literal.TheVariants as literal
-use Rattle.pz_syntax.specs.Expressions as expression
-use Rattle.pz_rules.specs.Terms.{Term, done, leaf, wait, sequence}
-use Rattle.pz_rules.specs.Settings.{Context}
-use Rattle.pz_rules.specs.Delays as delays
-use Rattle.pz_rules.specs.Delays.{Passes}
-use Rattle.pz_env_script.specs.declared.entry.Transfer.{Transfer}
-use Rattle.pz_env_script.specs.declared.entry.Transfer.TheVariants.{Send, Receive}
+use Rattle.pz_env_tree.specs.pz_syntax.declared.exprs.Literal.TheVariants as literal
+use Rattle.pz_env_tree.specs.pz_syntax.Expressions as expression
+use Rattle.pz_env_tree.specs.pz_rules.Terms.{Term, done, leaf, wait, sequence}
+use Rattle.pz_env_tree.specs.pz_rules.Settings.{Context}
+use Rattle.pz_env_tree.specs.pz_rules.Delays as delays
+use Rattle.pz_env_tree.specs.pz_rules.Delays.{Passes}
+use Rattle.pz_env_tree.specs.pz_env_script.declared.entry.Transfer.{Transfer}
+use Rattle.pz_env_tree.specs.pz_env_script.declared.entry.Transfer.TheVariants.{Send, Receive}
 use Rattle.pz_env_tree.specs.pz_env_rules.Environment.{Line, at_line, wait_of, Doing, offers, later}
 use Rattle.pz_env_mimics.specs.Environments.{exchange, statements, IsPlain}
 use Rattle.pz_env_mimics.specs.Closing.{MayDrive}

@@ -1,10 +1,10 @@
 -- What is left of the environment as a process, and the one part of it that acts.
 use Rattle.std.proofs.Common.{◌≡◌, ℕ, zero, suc, List, [], ◌∷◌, All, refl, sym, subst, arith}
-use Rattle.pz_syntax.specs.Statements.{then}
-use Rattle.pz_offer.specs.PlaceOrder.{Place}
-use Rattle.pz_rules.specs.Terms.{Steps, Term, done, leaf, wait, sequence, frame, first_or}
-use Rattle.pz_rules.specs.Settings.{Context}
-use Rattle.pz_rules.specs.Active.{Reached, Active, IsActive, here, inside}
+use Rattle.pz_env_tree.specs.pz_syntax.Statements.{then}
+use Rattle.pz_env_tree.specs.pz_offer.PlaceOrder.{Place}
+use Rattle.pz_env_tree.specs.pz_rules.Terms.{Steps, Term, done, leaf, wait, sequence, frame, first_or}
+use Rattle.pz_env_tree.specs.pz_rules.Settings.{Context}
+use Rattle.pz_env_tree.specs.pz_rules.Active.{Reached, Active, IsActive, here, inside}
 use Rattle.pz_env_tree.specs.pz_env_rules.Environment.{Line, at_line, wait_of, Doing, over, waits, offers}
 use Rattle.pz_env_mimics.specs.Environments.{exchange, waiting, statements}
 

@@ -1,5 +1,5 @@
 -- What is known of models with the same rules, as it is used here.
-use Rattle.pz_rules.specs.Laws.{StaysWhole}
+use Rattle.pz_env_tree.specs.pz_rules.Laws.{StaysWhole}
 use Rattle.pz_env_same.specs.Laws.{SendsAreTheSame, ProcessesSeeTheSame}
 use Rattle.pz_env_same.specs.SystemLaws.{OneMoreStands, PartsStandInBoth, PartsAreOfTheModel, InternalOffersAreTheSame, PairsAreTheSame, VerdictsAreTheSame, TroublesOfPartsAreTheSame, DelaysLeaveTheSame, HighIsTheSame, AllAreDoneInBoth, PartsHandTheSame, PartsTakeTheSame, ProcessesBecomeTheSame, OneMoreBecomes, LeadOnToBoth, TimePassesInBoth, StartsHaveOneMore, StartsAreOfBoth}
 

@@ -3,27 +3,27 @@ use Rattle.std.proofs.Common.{◌≡◌, ◌+◌, ◌<◌, ◌≤◌, ◌⊎◌,
 use Rattle.std.specs.Option.{option_map_or}
 use Rattle.std.proofs.lemmas.Bool.{cases_lt, eq-eqb, eqb-true}
 use Rattle.std.proofs.lemmas.Option.{slice_get_past}
-use Rattle.pz_syntax.specs.declared.tokens.Pos.{Pos}
-use Rattle.pz_syntax.specs.Classes.{ModelTree}
-use Rattle.pz_classes.specs.Tables.{class_names}
+use Rattle.pz_env_tree.specs.pz_syntax.declared.tokens.Pos.{Pos}
+use Rattle.pz_env_tree.specs.pz_syntax.Classes.{ModelTree}
+use Rattle.pz_env_tree.specs.pz_classes_rules.ClassNames.{class_names}
 use Rattle.pz_bind_levels.specs.Places.{Address}
-use Rattle.pz_bind.specs.Nest.{processes}
-use Rattle.pz_bind.specs.Names.{path}
-use Rattle.pz_copy.specs.Parcels.{ParcelView}
-use Rattle.pz_copy.specs.ParcelText.{parcel_text}
-use Rattle.pz_offer.specs.declared.trouble.Trouble.{Trouble}
-use Rattle.pz_offer.specs.declared.trouble.Trouble.TheVariants.{Fault, Spent, High}
-use Rattle.pz_rules.specs.declared.action.Action.{Action}
-use Rattle.pz_rules.specs.Runs.{Event}
-use Rattle.pz_trace.specs.declared.ending.Ending.{Ending}
-use Rattle.pz_trace.specs.declared.ending.Ending.TheVariants as ending
-use Rattle.pz_trace.specs.Words.{kind_word, fault_word, pos_text}
-use Rattle.pz_trace.specs.Labels as labels
-use Rattle.pz_trace.specs.Labels.{path_of, wire_of}
-use Rattle.pz_trace.specs.Lines as trace
-use Rattle.pz_trace.specs.Lines.{newline}
-use Rattle.pz_trace.specs.TraceText as trace_text
-use Rattle.pz_trace.specs.TraceText.{events_text}
+use Rattle.pz_env_tree.specs.pz_bind_rules.Nest.{processes}
+use Rattle.pz_env_tree.specs.pz_bind_rules.Names.{path}
+use Rattle.pz_env_tree.specs.pz_copy.Parcels.{ParcelView}
+use Rattle.pz_env_tree.specs.pz_copy.ParcelText.{parcel_text}
+use Rattle.pz_env_tree.specs.pz_offer.declared.trouble.Trouble.{Trouble}
+use Rattle.pz_env_tree.specs.pz_offer.declared.trouble.Trouble.TheVariants.{Fault, Spent, High}
+use Rattle.pz_env_tree.specs.pz_rules.declared.action.Action.{Action}
+use Rattle.pz_env_tree.specs.pz_rules.Runs.{Event}
+use Rattle.pz_env_tree.specs.pz_trace.declared.ending.Ending.{Ending}
+use Rattle.pz_env_tree.specs.pz_trace.declared.ending.Ending.TheVariants as ending
+use Rattle.pz_env_tree.specs.pz_trace.Words.{kind_word, fault_word, pos_text}
+use Rattle.pz_env_tree.specs.pz_trace.Labels as labels
+use Rattle.pz_env_tree.specs.pz_trace.Labels.{path_of, wire_of}
+use Rattle.pz_env_tree.specs.pz_trace.Lines as trace
+use Rattle.pz_env_tree.specs.pz_trace.Lines.{newline}
+use Rattle.pz_env_tree.specs.pz_trace.TraceText as trace_text
+use Rattle.pz_env_tree.specs.pz_trace.TraceText.{events_text}
 use Rattle.pz_env_tree.specs.pz_env_rules.Joining.{Driving}
 use Rattle.pz_env_tree.specs.pz_env_rules.Driven.{environment_number}
 use Rattle.pz_env_tree.specs.pz_env_rules.Text as text

@@ -1,31 +1,31 @@
 -- What literals come to: a unit for each, and nothing is changed.
 use Rattle.std.proofs.Common.{◌≡◌, ◌<◌, ◌≤◌, ◌+◌, ℕ, max, List, [], ◌∷◌, ◌++◌, length, Ok, Err, Result, pos, All, refl, sym, ap, subst, ◌∙◌, arith, append_assoc, append-nil}
 use Rattle.std.proofs.lemmas.List.Elements.{All-head, All-tail}
-use Rattle.pz_syntax.specs.declared.tokens.Pos.{Pos}
-use Rattle.pz_syntax.specs.declared.exprs.Literal.{Literal}
-use Rattle.pz_syntax.specs.declared.exprs.Literal.TheVariants as literal
-use Rattle.pz_syntax.specs.Expressions as expression
-use Rattle.pz_syntax.specs.Expressions.{none, more}
-use Rattle.pz_syntax.specs.Classes.{ModelTree}
-use Rattle.pz_value.specs.declared.value.Value.{Value}
-use Rattle.pz_value.specs.declared.value.Value.TheVariants as value
-use Rattle.pz_classes_code.specs.Literals.{constant}
-use Rattle.pz_state.specs.declared.fault.FaultKind.{FaultKind}
-use Rattle.pz_state.specs.States.{StateView}
-use Rattle.pz_offer.specs.declared.trouble.Trouble.{Trouble}
-use Rattle.pz_offer.specs.declared.trouble.Trouble.TheVariants.{Spent}
-use Rattle.pz_eval_rules.specs.declared.allowance.Allowance.{Allowance}
-use Rattle.pz_eval_rules.specs.declared.outcome.Outcome.{Outcome}
-use Rattle.pz_eval_rules.specs.declared.outcome.Outcome.TheVariants as outcome
-use Rattle.pz_eval_rules.specs.declared.outcome.Listed.{Listed}
-use Rattle.pz_eval_rules.specs.declared.outcome.Listed.TheVariants as listed
-use Rattle.pz_eval_rules.specs.Memories.{Memory, Location, in_process}
-use Rattle.pz_eval_rules.specs.Answers.{Stop, Answer, gives, stops, fault, ended, ended_list}
-use Rattle.pz_eval_rules.specs.Evaluation.{Evaluates, a_constant, Arguments, no_argument, an_argument, an_argument_stops}
-use Rattle.pz_eval_rules.specs.Outcomes.{Within, outside, Finds, a_value, a_fault, too_much, FindsAll, all_values, one_fault, all_too_much, ComesTo, AllComeTo}
-use Rattle.pz_rules.specs.Settings.{Context}
-use Rattle.pz_rules.specs.Meanings.{and_then, duration}
-use Rattle.pz_rules.specs.Evaluations.{allowance, value_or_trouble, values_or_trouble, Gives, GivesPart, Lasts}
+use Rattle.pz_env_tree.specs.pz_syntax.declared.tokens.Pos.{Pos}
+use Rattle.pz_env_tree.specs.pz_syntax.declared.exprs.Literal.{Literal}
+use Rattle.pz_env_tree.specs.pz_syntax.declared.exprs.Literal.TheVariants as literal
+use Rattle.pz_env_tree.specs.pz_syntax.Expressions as expression
+use Rattle.pz_env_tree.specs.pz_syntax.Expressions.{none, more}
+use Rattle.pz_env_tree.specs.pz_syntax.Classes.{ModelTree}
+use Rattle.pz_env_tree.specs.pz_value.declared.value.Value.{Value}
+use Rattle.pz_env_tree.specs.pz_value.declared.value.Value.TheVariants as value
+use Rattle.pz_env_tree.specs.pz_classes_code.Literals.{constant}
+use Rattle.pz_env_tree.specs.pz_state.declared.fault.FaultKind.{FaultKind}
+use Rattle.pz_env_tree.specs.pz_state.States.{StateView}
+use Rattle.pz_env_tree.specs.pz_offer.declared.trouble.Trouble.{Trouble}
+use Rattle.pz_env_tree.specs.pz_offer.declared.trouble.Trouble.TheVariants.{Spent}
+use Rattle.pz_env_tree.specs.pz_eval_rules.declared.allowance.Allowance.{Allowance}
+use Rattle.pz_env_tree.specs.pz_eval_rules.declared.outcome.Outcome.{Outcome}
+use Rattle.pz_env_tree.specs.pz_eval_rules.declared.outcome.Outcome.TheVariants as outcome
+use Rattle.pz_env_tree.specs.pz_eval_rules.declared.outcome.Listed.{Listed}
+use Rattle.pz_env_tree.specs.pz_eval_rules.declared.outcome.Listed.TheVariants as listed
+use Rattle.pz_env_tree.specs.pz_eval_rules.Memories.{Memory, Location, in_process}
+use Rattle.pz_env_tree.specs.pz_eval_rules.Answers.{Stop, Answer, gives, stops, fault, ended, ended_list}
+use Rattle.pz_env_tree.specs.pz_eval_rules.Evaluation.{Evaluates, a_constant, Arguments, no_argument, an_argument, an_argument_stops}
+use Rattle.pz_env_tree.specs.pz_eval_rules.Outcomes.{Within, outside, Finds, a_value, a_fault, too_much, FindsAll, all_values, one_fault, all_too_much, ComesTo, AllComeTo}
+use Rattle.pz_env_tree.specs.pz_rules.Settings.{Context}
+use Rattle.pz_env_tree.specs.pz_rules.Meanings.{and_then, duration}
+use Rattle.pz_env_tree.specs.pz_rules.Evaluations.{allowance, value_or_trouble, values_or_trouble, Gives, GivesPart, Lasts}
 use Rattle.pz_env_tree.specs.EnvironmentClass.{literal_of}
 use Rattle.pz_env_mimics.specs.Environments.{literals, arguments}
 

@@ -4,15 +4,15 @@ use Rattle.std.specs.List.{AllZip}
 use Rattle.std.proofs.lemmas.List.Elements.{All-nil, All-cons, All-head, All-tail}
 use Rattle.std.proofs.lemmas.Option.{slice_get_within, get_or_from_slice_get}
 use Rattle.std.proofs.lemmas.List.Kept.{AllPairs-cons}
-use Rattle.pz_syntax.specs.declared.tokens.Pos.{Pos}
-use Rattle.pz_copy.specs.Parcels.{ParcelView}
-use Rattle.pz_offer.specs.declared.end.End.{End}
-use Rattle.pz_offer.specs.PlaceOrder.{Place, PlaceBefore, EndBefore}
-use Rattle.pz_rules.specs.declared.action.Kind.{Kind}
-use Rattle.pz_rules.specs.declared.action.Action.{Action}
-use Rattle.pz_rules.specs.declared.action.Action.TheVariants.{Internal, Comm}
-use Rattle.pz_rules.specs.Offers.{PairBefore, Before}
-use Rattle.pz_rules.specs.Moments.{Source, part, pair, SourceBefore}
+use Rattle.pz_env_tree.specs.pz_syntax.declared.tokens.Pos.{Pos}
+use Rattle.pz_env_tree.specs.pz_copy.Parcels.{ParcelView}
+use Rattle.pz_env_tree.specs.pz_offer.declared.end.End.{End}
+use Rattle.pz_env_tree.specs.pz_offer.PlaceOrder.{Place, PlaceBefore, EndBefore}
+use Rattle.pz_env_tree.specs.pz_rules.declared.action.Kind.{Kind}
+use Rattle.pz_env_tree.specs.pz_rules.declared.action.Action.{Action}
+use Rattle.pz_env_tree.specs.pz_rules.declared.action.Action.TheVariants.{Internal, Comm}
+use Rattle.pz_env_tree.specs.pz_rules.Offers.{PairBefore, Before}
+use Rattle.pz_env_tree.specs.pz_rules.Moments.{Source, part, pair, SourceBefore}
 
 pub contains_cases : {X : Type 0} (y : X) (ys : List X) (x : X) → Contains (y ∷ ys) x → (x ≡ y) ⊎ Contains ys x
 contains_cases y ys x (zero, within, is) = inl (sym is)

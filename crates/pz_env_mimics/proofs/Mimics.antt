@@ -2,17 +2,17 @@
 use Rattle.std.proofs.Common.{◌≡◌, ◌<◌, ◌≤◌, ◌⊎◌, inl, inr, ◌↔◌, ℕ, zero, suc, List, [], ◌∷◌, ◌++◌, length, Some, All, get_or, slice_get, refl, sym, ap, subst, ◌∙◌, arith}
 use Rattle.std.proofs.lemmas.Bool.{cases_lt}
 use Rattle.std.proofs.lemmas.List.Elements.{Contains-get_or}
-use Rattle.pz_syntax.specs.Classes.{ModelTree}
+use Rattle.pz_env_tree.specs.pz_syntax.Classes.{ModelTree}
 use Rattle.pz_bind_levels.specs.Places.{Address}
-use Rattle.pz_bind.specs.Nest.{processes, class_at}
-use Rattle.pz_offer.specs.declared.end.End.{End}
-use Rattle.pz_offer.specs.PlaceOrder.{Place}
-use Rattle.pz_rules.specs.Terms.{Term}
-use Rattle.pz_rules.specs.Settings.{Process, Context}
-use Rattle.pz_rules.specs.Active.{IsActive}
-use Rattle.pz_rules.specs.Ports.{IsWire}
-use Rattle.pz_rules.specs.Configurations.{Config, Stands}
-use Rattle.pz_rules.specs.Offers.{PartAt}
+use Rattle.pz_env_tree.specs.pz_bind_rules.Nest.{processes, class_at}
+use Rattle.pz_env_tree.specs.pz_offer.declared.end.End.{End}
+use Rattle.pz_env_tree.specs.pz_offer.PlaceOrder.{Place}
+use Rattle.pz_env_tree.specs.pz_rules.Terms.{Term}
+use Rattle.pz_env_tree.specs.pz_rules.Settings.{Process, Context}
+use Rattle.pz_env_tree.specs.pz_rules.Active.{IsActive}
+use Rattle.pz_env_tree.specs.pz_rules.Ports.{IsWire}
+use Rattle.pz_env_tree.specs.pz_rules.Configurations.{Config, Stands}
+use Rattle.pz_env_tree.specs.pz_rules.Offers.{PartAt}
 use Rattle.pz_env_tree.specs.pz_env_rules.Environment.{Line}
 use Rattle.pz_env_tree.specs.pz_env_rules.Joining.{Driving}
 use Rattle.pz_env_tree.specs.pz_env_rules.Driven.{Driven, environment_number, IsWireOf}

@@ -1,21 +1,21 @@
 -- The moment of both is the same.
 use Rattle.std.proofs.Common.{◌≡◌, ◌<◌, ◌≤◌, ◌⊎◌, inl, inr, ℕ, [], ◌∷◌, length, Err, refl, sym, ap, subst, arith}
 use Rattle.std.proofs.lemmas.List.Elements.{length_all_zip}
-use Rattle.pz_syntax.specs.Classes.{ModelTree}
-use Rattle.pz_offer.specs.declared.end.End.{End}
-use Rattle.pz_offer.specs.PlaceOrder.{Place}
-use Rattle.pz_offer.specs.declared.trouble.Trouble.{Trouble}
-use Rattle.pz_offer.specs.declared.trouble.Trouble.TheVariants.{Spent}
-use Rattle.pz_rules.specs.declared.moment.Moment.{Moment}
-use Rattle.pz_rules.specs.declared.moment.Moment.TheVariants.{Actions as ActionsMoment}
-use Rattle.pz_rules.specs.Terms.{Term, done, height, leaf}
-use Rattle.pz_rules.specs.Settings.{Process, Context}
-use Rattle.pz_rules.specs.Asking.{Asks}
-use Rattle.pz_rules.specs.Delays.{Delays}
-use Rattle.pz_rules.specs.Configurations.{Config}
-use Rattle.pz_rules.specs.Offers.{PartAt}
-use Rattle.pz_rules.specs.Moments as system
-use Rattle.pz_rules.specs.Moments.{IsFirstHigh, Source, part, pair, Troubles, IsLeastTrouble, IsLeft, IsLeast, AllDone, Candidate, rank, IsMoment}
+use Rattle.pz_env_tree.specs.pz_syntax.Classes.{ModelTree}
+use Rattle.pz_env_tree.specs.pz_offer.declared.end.End.{End}
+use Rattle.pz_env_tree.specs.pz_offer.PlaceOrder.{Place}
+use Rattle.pz_env_tree.specs.pz_offer.declared.trouble.Trouble.{Trouble}
+use Rattle.pz_env_tree.specs.pz_offer.declared.trouble.Trouble.TheVariants.{Spent}
+use Rattle.pz_env_tree.specs.pz_rules.declared.moment.Moment.{Moment}
+use Rattle.pz_env_tree.specs.pz_rules.declared.moment.Moment.TheVariants.{Actions as ActionsMoment}
+use Rattle.pz_env_tree.specs.pz_rules.Terms.{Term, done, height, leaf}
+use Rattle.pz_env_tree.specs.pz_rules.Settings.{Process, Context}
+use Rattle.pz_env_tree.specs.pz_rules.Asking.{Asks}
+use Rattle.pz_env_tree.specs.pz_rules.Delays.{Delays}
+use Rattle.pz_env_tree.specs.pz_rules.Configurations.{Config}
+use Rattle.pz_env_tree.specs.pz_rules.Offers.{PartAt}
+use Rattle.pz_env_tree.specs.pz_rules.Moments as system
+use Rattle.pz_env_tree.specs.pz_rules.Moments.{IsFirstHigh, Source, part, pair, Troubles, IsLeastTrouble, IsLeft, IsLeast, AllDone, Candidate, rank, IsMoment}
 use Rattle.pz_env_tree.specs.pz_env_rules.Environment.{Line, at_line, Doing, over}
 use Rattle.pz_env_tree.specs.pz_env_rules.Joining.{Driving}
 use Rattle.pz_env_tree.specs.pz_env_rules.Driven.{Driven, environment_end}

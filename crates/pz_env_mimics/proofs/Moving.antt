@@ -1,22 +1,22 @@
 -- What the environment becomes by what it does, as a process.
 use Rattle.std.proofs.Common.{◌≡◌, ◌≤◌, ◌+◌, ℕ, List, [], ◌∷◌, length, Result, Ok, All, refl, ap, subst, ◌∙◌}
-use Rattle.pz_syntax.specs.declared.tokens.Pos.{Pos}
-use Rattle.pz_value.specs.declared.value.Value.{Value}
-use Rattle.pz_state.specs.States.{object_limit}
-use Rattle.pz_state.specs.declared.fault.FaultKind.TheVariants.{StoreFull}
-use Rattle.pz_copy.specs.Parcels.{ParcelView}
-use Rattle.pz_offer.specs.PlaceOrder.{Place}
-use Rattle.pz_offer.specs.declared.trouble.Trouble.{Trouble}
-use Rattle.pz_rules.specs.Terms.{Term, leaf, sequence}
-use Rattle.pz_rules.specs.Settings.{Context, Process, left_by}
-use Rattle.pz_rules.specs.Meanings.{and_then, fault}
-use Rattle.pz_rules.specs.Active.{IsActive}
-use Rattle.pz_rules.specs.Leaving.{around, swept, settled}
-use Rattle.pz_rules.specs.InternalActions.{done_in, Performs}
-use Rattle.pz_rules.specs.Messages.{Fits, Hands, Takes}
-use Rattle.pz_env_script.specs.declared.entry.Transfer.{Transfer}
-use Rattle.pz_env_script.specs.declared.entry.Transfer.TheVariants.{Send, Receive}
-use Rattle.pz_env_script.specs.Entries.{values_in}
+use Rattle.pz_env_tree.specs.pz_syntax.declared.tokens.Pos.{Pos}
+use Rattle.pz_env_tree.specs.pz_value.declared.value.Value.{Value}
+use Rattle.pz_env_tree.specs.pz_state.States.{object_limit}
+use Rattle.pz_env_tree.specs.pz_state.declared.fault.FaultKind.TheVariants.{StoreFull}
+use Rattle.pz_env_tree.specs.pz_copy.Parcels.{ParcelView}
+use Rattle.pz_env_tree.specs.pz_offer.PlaceOrder.{Place}
+use Rattle.pz_env_tree.specs.pz_offer.declared.trouble.Trouble.{Trouble}
+use Rattle.pz_env_tree.specs.pz_rules.Terms.{Term, leaf, sequence}
+use Rattle.pz_env_tree.specs.pz_rules.Settings.{Context, Process, left_by}
+use Rattle.pz_env_tree.specs.pz_rules.Meanings.{and_then, fault}
+use Rattle.pz_env_tree.specs.pz_rules.Active.{IsActive}
+use Rattle.pz_env_tree.specs.pz_rules.Leaving.{around, swept, settled}
+use Rattle.pz_env_tree.specs.pz_rules.InternalActions.{done_in, Performs}
+use Rattle.pz_env_tree.specs.pz_rules.Messages.{Fits, Hands, Takes}
+use Rattle.pz_env_tree.specs.pz_env_script.declared.entry.Transfer.{Transfer}
+use Rattle.pz_env_tree.specs.pz_env_script.declared.entry.Transfer.TheVariants.{Send, Receive}
+use Rattle.pz_env_tree.specs.pz_env_script.Entries.{values_in}
 use Rattle.pz_env_tree.specs.pz_env_rules.Environment.{Line, at_line, Doing, waits, offers, begins}
 use Rattle.pz_env_mimics.specs.Environments.{exchange, IsPlain}
 use Rattle.pz_env_mimics.specs.Closing.{MayDrive}

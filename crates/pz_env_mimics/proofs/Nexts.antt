@@ -1,25 +1,25 @@
 -- Where an action leads in both is the same.
 use Rattle.std.proofs.Common.{◌≡◌, ◌<◌, ℕ, List, [], length, Result, Ok, refl, sym, ap, subst, ◌∙◌, arith}
-use Rattle.pz_syntax.specs.declared.tokens.Pos.{Pos}
-use Rattle.pz_syntax.specs.Classes.{ModelTree}
-use Rattle.pz_value.specs.declared.value.Value.{Value}
-use Rattle.pz_copy.specs.Parcels.{ParcelView}
-use Rattle.pz_offer.specs.declared.end.End.{End}
-use Rattle.pz_offer.specs.PlaceOrder.{Place}
-use Rattle.pz_offer.specs.declared.trouble.Trouble.{Trouble}
-use Rattle.pz_rules.specs.declared.action.Kind.{Kind}
-use Rattle.pz_rules.specs.declared.action.Kind.TheVariants.{Expire}
-use Rattle.pz_rules.specs.declared.action.Action.{Action}
-use Rattle.pz_rules.specs.declared.action.Action.TheVariants.{Internal, Comm}
-use Rattle.pz_rules.specs.Settings.{Context}
-use Rattle.pz_rules.specs.Meanings.{and_then}
-use Rattle.pz_rules.specs.InternalActions.{Performs}
-use Rattle.pz_rules.specs.Messages.{Hands, Takes}
-use Rattle.pz_rules.specs.Configurations.{Config}
-use Rattle.pz_rules.specs.Offers as offered
-use Rattle.pz_rules.specs.Offers.{PartAt, Offers}
-use Rattle.pz_rules.specs.Steps as system
-use Rattle.pz_rules.specs.Steps.{Deed, Acts, with_process, with_both, Next, PassesTo}
+use Rattle.pz_env_tree.specs.pz_syntax.declared.tokens.Pos.{Pos}
+use Rattle.pz_env_tree.specs.pz_syntax.Classes.{ModelTree}
+use Rattle.pz_env_tree.specs.pz_value.declared.value.Value.{Value}
+use Rattle.pz_env_tree.specs.pz_copy.Parcels.{ParcelView}
+use Rattle.pz_env_tree.specs.pz_offer.declared.end.End.{End}
+use Rattle.pz_env_tree.specs.pz_offer.PlaceOrder.{Place}
+use Rattle.pz_env_tree.specs.pz_offer.declared.trouble.Trouble.{Trouble}
+use Rattle.pz_env_tree.specs.pz_rules.declared.action.Kind.{Kind}
+use Rattle.pz_env_tree.specs.pz_rules.declared.action.Kind.TheVariants.{Expire}
+use Rattle.pz_env_tree.specs.pz_rules.declared.action.Action.{Action}
+use Rattle.pz_env_tree.specs.pz_rules.declared.action.Action.TheVariants.{Internal, Comm}
+use Rattle.pz_env_tree.specs.pz_rules.Settings.{Context}
+use Rattle.pz_env_tree.specs.pz_rules.Meanings.{and_then}
+use Rattle.pz_env_tree.specs.pz_rules.InternalActions.{Performs}
+use Rattle.pz_env_tree.specs.pz_rules.Messages.{Hands, Takes}
+use Rattle.pz_env_tree.specs.pz_rules.Configurations.{Config}
+use Rattle.pz_env_tree.specs.pz_rules.Offers as offered
+use Rattle.pz_env_tree.specs.pz_rules.Offers.{PartAt, Offers}
+use Rattle.pz_env_tree.specs.pz_rules.Steps as system
+use Rattle.pz_env_tree.specs.pz_rules.Steps.{Deed, Acts, with_process, with_both, Next, PassesTo}
 use Rattle.pz_env_tree.specs.pz_env_rules.Environment.{Line, at_line, waits, offers, begins}
 use Rattle.pz_env_tree.specs.pz_env_rules.Joining.{Driving}
 use Rattle.pz_env_tree.specs.pz_env_rules.Driven.{Driven, environment_end, plain, Gives, Gets, stored}

@@ -1,20 +1,20 @@
 -- What an action leads to in both is the same.
 use Rattle.std.proofs.Common.{◌≡◌, ◌<◌, ◌≤◌, ◌+◌, ℕ, Bool, true, false, List, length, Result, Ok, Err, refl, sym, ap, subst, ◌∙◌, arith, nat_le, if◌then◌else◌}
 use Rattle.std.proofs.lemmas.Bool.{le-leb, leb-true}
-use Rattle.pz_syntax.specs.Classes.{ModelTree}
-use Rattle.pz_state.specs.States.{object_limit}
-use Rattle.pz_state.specs.declared.fault.FaultKind.TheVariants.{StoreFull}
-use Rattle.pz_copy.specs.Parcels.{ParcelView}
-use Rattle.pz_offer.specs.declared.end.End.{End}
-use Rattle.pz_offer.specs.PlaceOrder.{Place}
-use Rattle.pz_offer.specs.declared.trouble.Trouble.{Trouble}
-use Rattle.pz_offer.specs.declared.trouble.Trouble.TheVariants.{Fault}
-use Rattle.pz_rules.specs.declared.action.Action.{Action}
-use Rattle.pz_rules.specs.Settings.{Process, Context}
-use Rattle.pz_rules.specs.Meanings.{and_then, fault}
-use Rattle.pz_rules.specs.Messages.{Fits}
-use Rattle.pz_rules.specs.Configurations.{Config, IsWhole}
-use Rattle.pz_rules.specs.Steps.{with_process, with_both, Next}
+use Rattle.pz_env_tree.specs.pz_syntax.Classes.{ModelTree}
+use Rattle.pz_env_tree.specs.pz_state.States.{object_limit}
+use Rattle.pz_env_tree.specs.pz_state.declared.fault.FaultKind.TheVariants.{StoreFull}
+use Rattle.pz_env_tree.specs.pz_copy.Parcels.{ParcelView}
+use Rattle.pz_env_tree.specs.pz_offer.declared.end.End.{End}
+use Rattle.pz_env_tree.specs.pz_offer.PlaceOrder.{Place}
+use Rattle.pz_env_tree.specs.pz_offer.declared.trouble.Trouble.{Trouble}
+use Rattle.pz_env_tree.specs.pz_offer.declared.trouble.Trouble.TheVariants.{Fault}
+use Rattle.pz_env_tree.specs.pz_rules.declared.action.Action.{Action}
+use Rattle.pz_env_tree.specs.pz_rules.Settings.{Process, Context}
+use Rattle.pz_env_tree.specs.pz_rules.Meanings.{and_then, fault}
+use Rattle.pz_env_tree.specs.pz_rules.Messages.{Fits}
+use Rattle.pz_env_tree.specs.pz_rules.Configurations.{Config, IsWhole}
+use Rattle.pz_env_tree.specs.pz_rules.Steps.{with_process, with_both, Next}
 use Rattle.pz_env_tree.specs.pz_env_rules.Environment.{Line, at_line, Doing, offers, begins}
 use Rattle.pz_env_tree.specs.pz_env_rules.Joining.{Driving}
 use Rattle.pz_env_tree.specs.pz_env_rules.Driven.{Driven, stored}

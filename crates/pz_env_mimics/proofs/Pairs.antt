@@ -1,16 +1,16 @@
 -- The pairs of both are the same.
 use Rattle.std.proofs.Common.{◌≡◌, ◌<◌, ◌⊎◌, inl, inr, ℕ, List, [], length, sym, subst, ◌∙◌, arith}
-use Rattle.pz_syntax.specs.Classes.{ModelTree}
-use Rattle.pz_copy.specs.Parcels.{ParcelView}
-use Rattle.pz_offer.specs.declared.end.End.{End}
-use Rattle.pz_offer.specs.PlaceOrder.{Place}
-use Rattle.pz_rules.specs.declared.action.Action.{Action}
-use Rattle.pz_rules.specs.Terms.{leaf}
-use Rattle.pz_rules.specs.Settings.{Context}
-use Rattle.pz_rules.specs.Messages.{Sends}
-use Rattle.pz_rules.specs.Ports.{IsWire}
-use Rattle.pz_rules.specs.Configurations.{Config}
-use Rattle.pz_rules.specs.Offers.{IsPair}
+use Rattle.pz_env_tree.specs.pz_syntax.Classes.{ModelTree}
+use Rattle.pz_env_tree.specs.pz_copy.Parcels.{ParcelView}
+use Rattle.pz_env_tree.specs.pz_offer.declared.end.End.{End}
+use Rattle.pz_env_tree.specs.pz_offer.PlaceOrder.{Place}
+use Rattle.pz_env_tree.specs.pz_rules.declared.action.Action.{Action}
+use Rattle.pz_env_tree.specs.pz_rules.Terms.{leaf}
+use Rattle.pz_env_tree.specs.pz_rules.Settings.{Context}
+use Rattle.pz_env_tree.specs.pz_rules.Messages.{Sends}
+use Rattle.pz_env_tree.specs.pz_rules.Ports.{IsWire}
+use Rattle.pz_env_tree.specs.pz_rules.Configurations.{Config}
+use Rattle.pz_env_tree.specs.pz_rules.Offers.{IsPair}
 use Rattle.pz_env_tree.specs.pz_env_rules.Environment.{Line, at_line}
 use Rattle.pz_env_tree.specs.pz_env_rules.Joining.{Driving}
 use Rattle.pz_env_tree.specs.pz_env_rules.Driven.{Driven, environment_end, IsWireOf}

@@ -1,15 +1,15 @@
 -- Where the passing of time leads in both is the same.
 use Rattle.std.proofs.Common.{ℕ, refl, sym, ap, subst, ◌∙◌}
-use Rattle.pz_syntax.specs.Classes.{ModelTree}
-use Rattle.pz_offer.specs.declared.end.End.{End}
-use Rattle.pz_offer.specs.PlaceOrder.{Place}
-use Rattle.pz_rules.specs.declared.action.Kind.TheVariants.{Expire}
-use Rattle.pz_rules.specs.declared.action.Action.TheVariants.{Internal}
-use Rattle.pz_rules.specs.Terms.{Term}
-use Rattle.pz_rules.specs.Settings.{Context, left_by}
-use Rattle.pz_rules.specs.Delays.{Passes}
-use Rattle.pz_rules.specs.Configurations.{Config, Stands, IsWhole}
-use Rattle.pz_rules.specs.Steps.{PassesTo}
+use Rattle.pz_env_tree.specs.pz_syntax.Classes.{ModelTree}
+use Rattle.pz_env_tree.specs.pz_offer.declared.end.End.{End}
+use Rattle.pz_env_tree.specs.pz_offer.PlaceOrder.{Place}
+use Rattle.pz_env_tree.specs.pz_rules.declared.action.Kind.TheVariants.{Expire}
+use Rattle.pz_env_tree.specs.pz_rules.declared.action.Action.TheVariants.{Internal}
+use Rattle.pz_env_tree.specs.pz_rules.Terms.{Term}
+use Rattle.pz_env_tree.specs.pz_rules.Settings.{Context, left_by}
+use Rattle.pz_env_tree.specs.pz_rules.Delays.{Passes}
+use Rattle.pz_env_tree.specs.pz_rules.Configurations.{Config, Stands, IsWhole}
+use Rattle.pz_env_tree.specs.pz_rules.Steps.{PassesTo}
 use Rattle.pz_env_tree.specs.pz_env_rules.Environment.{Line, later, Environment}
 use Rattle.pz_env_tree.specs.pz_env_rules.Joining.{Driving}
 use Rattle.pz_env_tree.specs.pz_env_rules.Driven.{Driven}

@@ -4,19 +4,19 @@ use Rattle.std.specs.List.{list_any}
 use Rattle.std.specs.Prelude.{nat_eq}
 use Rattle.std.proofs.lemmas.List.{length-map}
 use Rattle.std.proofs.lemmas.List.Elements.{All-head, All-tail}
-use Rattle.pz_value.specs.declared.value.Value.{Value}
-use Rattle.pz_value.specs.declared.value.Value.TheVariants as value
-use Rattle.pz_classes_code.specs.declared.slot.Slot.{Slot}
-use Rattle.pz_classes_code.specs.declared.slot.Slot.TheVariants.{Shared}
-use Rattle.pz_state.specs.Objects.{ObjectView}
-use Rattle.pz_state.specs.States.{StateView}
-use Rattle.pz_copy.specs.References.{reference_of, references, renumbered, renumbered_object}
-use Rattle.pz_copy.specs.Parcels.{ParcelView}
-use Rattle.pz_copy.specs.Packing.{firsts, mentioned, place_in, packed_objects, IsListing, IsParcelOf}
-use Rattle.pz_copy.specs.Unpacking.{shifted_objects, unpacked, unpacked_values}
+use Rattle.pz_env_tree.specs.pz_value.declared.value.Value.{Value}
+use Rattle.pz_env_tree.specs.pz_value.declared.value.Value.TheVariants as value
+use Rattle.pz_env_tree.specs.pz_classes_code.declared.slot.Slot.{Slot}
+use Rattle.pz_env_tree.specs.pz_classes_code.declared.slot.Slot.TheVariants.{Shared}
+use Rattle.pz_env_tree.specs.pz_state.Objects.{ObjectView}
+use Rattle.pz_env_tree.specs.pz_state.States.{StateView}
+use Rattle.pz_env_tree.specs.pz_copy.References.{reference_of, references, renumbered, renumbered_object}
+use Rattle.pz_env_tree.specs.pz_copy.Parcels.{ParcelView}
+use Rattle.pz_env_tree.specs.pz_copy.Packing.{firsts, mentioned, place_in, packed_objects, IsListing, IsParcelOf}
+use Rattle.pz_env_tree.specs.pz_copy.Unpacking.{shifted_objects, unpacked, unpacked_values}
 use Rattle.pz_eval_binding.specs.Binding as binding
 use Rattle.pz_eval_binding.specs.Binding.{set_slots, set_slot}
-use Rattle.pz_rules.specs.Messages.{variables_of}
+use Rattle.pz_env_tree.specs.pz_rules.Messages.{variables_of}
 use Rattle.pz_env_tree.specs.EnvironmentClass.{unless_none}
 use Rattle.pz_env_mimics.proofs.Literals.{IsConstant}
 

@@ -1,13 +1,13 @@
 -- Runs of both go the same way, and may end so.
 use Rattle.std.proofs.Common.{◌↔◌, ℕ, List, [], ◌∷◌, Ok, Err, refl, subst}
-use Rattle.pz_syntax.specs.Classes.{ModelTree}
-use Rattle.pz_rules.specs.declared.moment.Moment.{Moment}
-use Rattle.pz_rules.specs.declared.moment.Moment.TheVariants.{Actions, Time, Finished, Deadlock, Faulty, Stopped}
-use Rattle.pz_rules.specs.Configurations.{Config}
-use Rattle.pz_rules.specs.Steps.{Next}
-use Rattle.pz_rules.specs.Moments.{IsMoment}
-use Rattle.pz_rules.specs.Runs as runs
-use Rattle.pz_rules.specs.Runs.{Event, acted, passed, IsChoice, Standing, whole, stopped, Reaches, Ending, Ends}
+use Rattle.pz_env_tree.specs.pz_syntax.Classes.{ModelTree}
+use Rattle.pz_env_tree.specs.pz_rules.declared.moment.Moment.{Moment}
+use Rattle.pz_env_tree.specs.pz_rules.declared.moment.Moment.TheVariants.{Actions, Time, Finished, Deadlock, Faulty, Stopped}
+use Rattle.pz_env_tree.specs.pz_rules.Configurations.{Config}
+use Rattle.pz_env_tree.specs.pz_rules.Steps.{Next}
+use Rattle.pz_env_tree.specs.pz_rules.Moments.{IsMoment}
+use Rattle.pz_env_tree.specs.pz_rules.Runs as runs
+use Rattle.pz_env_tree.specs.pz_rules.Runs.{Event, acted, passed, IsChoice, Standing, whole, stopped, Reaches, Ending, Ends}
 use Rattle.pz_env_tree.specs.pz_env_rules.Joining.{Driving}
 use Rattle.pz_env_tree.specs.pz_env_rules.Driven.{Driven}
 use Rattle.pz_env_tree.specs.pz_env_rules.Moments.{IsDrivenMoment}

@@ -2,16 +2,16 @@
 use Rattle.std.proofs.Common.{◌≡◌, ◌≤◌, ℕ, Bool, List, [], ◌∷◌, Ok, Err, All, refl, ap, ◌∙◌, arith, if◌then◌else◌}
 use Rattle.std.proofs.lemmas.Bool.{le-leb}
 use Rattle.std.proofs.lemmas.List.Elements.{All-head, All-tail}
-use Rattle.pz_syntax.specs.declared.tokens.Pos.{Pos}
-use Rattle.pz_state.specs.States.{StateView}
-use Rattle.pz_offer.specs.declared.trouble.Trouble.TheVariants.{High}
-use Rattle.pz_rules.specs.Terms.{Step, Term, done, leaf, sequence, height}
-use Rattle.pz_rules.specs.Settings.{Context, Process, left_by, Home, home_of}
-use Rattle.pz_rules.specs.Opening.{step_opened, enter, opened_all}
-use Rattle.pz_rules.specs.Leaving.{around, residual, swept, not_too_high, settled}
-use Rattle.pz_rules.specs.InternalActions.{done_in}
-use Rattle.pz_env_script.specs.declared.entry.Transfer.{Transfer}
-use Rattle.pz_env_script.specs.declared.entry.Transfer.TheVariants.{Send, Receive}
+use Rattle.pz_env_tree.specs.pz_syntax.declared.tokens.Pos.{Pos}
+use Rattle.pz_env_tree.specs.pz_state.States.{StateView}
+use Rattle.pz_env_tree.specs.pz_offer.declared.trouble.Trouble.TheVariants.{High}
+use Rattle.pz_env_tree.specs.pz_rules.Terms.{Step, Term, done, leaf, sequence, height}
+use Rattle.pz_env_tree.specs.pz_rules.Settings.{Context, Process, left_by, Home, home_of}
+use Rattle.pz_env_tree.specs.pz_rules.Opening.{step_opened, enter, opened_all}
+use Rattle.pz_env_tree.specs.pz_rules.Leaving.{around, residual, swept, not_too_high, settled}
+use Rattle.pz_env_tree.specs.pz_rules.InternalActions.{done_in}
+use Rattle.pz_env_tree.specs.pz_env_script.declared.entry.Transfer.{Transfer}
+use Rattle.pz_env_tree.specs.pz_env_script.declared.entry.Transfer.TheVariants.{Send, Receive}
 use Rattle.pz_env_tree.specs.pz_env_rules.Environment.{Line, wait_of, offers, begins}
 use Rattle.pz_env_mimics.specs.Environments.{exchange, waiting, statements}
 use Rattle.pz_env_mimics.proofs.Environment.{not_begun, behind, offering, called, IsDoing, finished, waiting_for, place_of}

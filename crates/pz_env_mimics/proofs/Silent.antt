@@ -1,19 +1,19 @@
 -- What is around another term does nothing of itself, and nor does what is done.
 use Rattle.std.proofs.Common.{ℕ, Bool, List, Result}
-use Rattle.pz_syntax.specs.declared.tokens.Pos.{Pos}
-use Rattle.pz_copy.specs.Parcels.{ParcelView}
-use Rattle.pz_offer.specs.declared.trouble.Trouble.{Trouble}
-use Rattle.pz_rules.specs.declared.action.Kind.{Kind}
-use Rattle.pz_rules.specs.Terms.{Term, done}
-use Rattle.pz_rules.specs.Settings.{Context}
-use Rattle.pz_rules.specs.InternalActions as actions
-use Rattle.pz_rules.specs.InternalActions.{Can}
-use Rattle.pz_rules.specs.Messages as messages
-use Rattle.pz_rules.specs.Messages.{Sends, Receives, Judges}
-use Rattle.pz_rules.specs.Asking as asking
-use Rattle.pz_rules.specs.Asking.{Asks}
-use Rattle.pz_rules.specs.Delays as delays
-use Rattle.pz_rules.specs.Delays.{Delays}
+use Rattle.pz_env_tree.specs.pz_syntax.declared.tokens.Pos.{Pos}
+use Rattle.pz_env_tree.specs.pz_copy.Parcels.{ParcelView}
+use Rattle.pz_env_tree.specs.pz_offer.declared.trouble.Trouble.{Trouble}
+use Rattle.pz_env_tree.specs.pz_rules.declared.action.Kind.{Kind}
+use Rattle.pz_env_tree.specs.pz_rules.Terms.{Term, done}
+use Rattle.pz_env_tree.specs.pz_rules.Settings.{Context}
+use Rattle.pz_env_tree.specs.pz_rules.InternalActions as actions
+use Rattle.pz_env_tree.specs.pz_rules.InternalActions.{Can}
+use Rattle.pz_env_tree.specs.pz_rules.Messages as messages
+use Rattle.pz_env_tree.specs.pz_rules.Messages.{Sends, Receives, Judges}
+use Rattle.pz_env_tree.specs.pz_rules.Asking as asking
+use Rattle.pz_env_tree.specs.pz_rules.Asking.{Asks}
+use Rattle.pz_env_tree.specs.pz_rules.Delays as delays
+use Rattle.pz_env_tree.specs.pz_rules.Delays.{Delays}
 use Rattle.pz_env_mimics.proofs.Environment.{IsAround}
 
 pub around_cannot : (a : Context) (g : ℕ) (part : Term) (kind : Kind) (at : Pos) → IsAround part → Can a g part kind at → ⊥

@@ -1,31 +1,31 @@
 -- What the environment's part that acts can do, sends, receives and is asked, and what is left of its delay.
 use Rattle.std.proofs.Common.{◌≡◌, ◌<◌, ◌≤◌, ◌⊎◌, inl, inr, ℕ, Bool, true, List, [], length, replicate, None, Result, Ok, Err, ℤ, All, refl, sym, ap, subst}
 use Rattle.std.proofs.lemmas.Bool.{cases_lt}
-use Rattle.pz_syntax.specs.declared.tokens.Pos.{Pos}
-use Rattle.pz_syntax.specs.declared.exprs.Literal.TheVariants as literal
-use Rattle.pz_syntax.specs.Expressions as expression
-use Rattle.pz_value.specs.declared.value.Value.{Value}
-use Rattle.pz_classes_code.specs.declared.slot.Slot.TheVariants.{Shared}
-use Rattle.pz_copy.specs.Parcels.{ParcelView}
-use Rattle.pz_copy.specs.Packing.{IsParcelOf}
-use Rattle.pz_offer.specs.declared.trouble.Trouble.{Trouble}
-use Rattle.pz_offer.specs.declared.trouble.Trouble.TheVariants.{Spent}
-use Rattle.pz_rules.specs.declared.action.Kind.{Kind}
-use Rattle.pz_rules.specs.declared.action.Kind.TheVariants.{Expire}
-use Rattle.pz_rules.specs.Terms.{Term, leaf, wait}
-use Rattle.pz_rules.specs.Settings.{Context}
-use Rattle.pz_rules.specs.Evaluations.{Lasts}
-use Rattle.pz_rules.specs.InternalActions as actions
-use Rattle.pz_rules.specs.InternalActions.{Can}
-use Rattle.pz_rules.specs.Messages as messages
-use Rattle.pz_rules.specs.Messages.{Sends, Receives, Judges}
-use Rattle.pz_rules.specs.Asking as asking
-use Rattle.pz_rules.specs.Asking.{Asks}
-use Rattle.pz_rules.specs.Delays as delays
-use Rattle.pz_rules.specs.Delays.{Delays}
-use Rattle.pz_env_script.specs.declared.entry.Transfer.{Transfer}
-use Rattle.pz_env_script.specs.declared.entry.Transfer.TheVariants.{Send, Receive}
-use Rattle.pz_env_script.specs.Entries.{values_in}
+use Rattle.pz_env_tree.specs.pz_syntax.declared.tokens.Pos.{Pos}
+use Rattle.pz_env_tree.specs.pz_syntax.declared.exprs.Literal.TheVariants as literal
+use Rattle.pz_env_tree.specs.pz_syntax.Expressions as expression
+use Rattle.pz_env_tree.specs.pz_value.declared.value.Value.{Value}
+use Rattle.pz_env_tree.specs.pz_classes_code.declared.slot.Slot.TheVariants.{Shared}
+use Rattle.pz_env_tree.specs.pz_copy.Parcels.{ParcelView}
+use Rattle.pz_env_tree.specs.pz_copy.Packing.{IsParcelOf}
+use Rattle.pz_env_tree.specs.pz_offer.declared.trouble.Trouble.{Trouble}
+use Rattle.pz_env_tree.specs.pz_offer.declared.trouble.Trouble.TheVariants.{Spent}
+use Rattle.pz_env_tree.specs.pz_rules.declared.action.Kind.{Kind}
+use Rattle.pz_env_tree.specs.pz_rules.declared.action.Kind.TheVariants.{Expire}
+use Rattle.pz_env_tree.specs.pz_rules.Terms.{Term, leaf, wait}
+use Rattle.pz_env_tree.specs.pz_rules.Settings.{Context}
+use Rattle.pz_env_tree.specs.pz_rules.Evaluations.{Lasts}
+use Rattle.pz_env_tree.specs.pz_rules.InternalActions as actions
+use Rattle.pz_env_tree.specs.pz_rules.InternalActions.{Can}
+use Rattle.pz_env_tree.specs.pz_rules.Messages as messages
+use Rattle.pz_env_tree.specs.pz_rules.Messages.{Sends, Receives, Judges}
+use Rattle.pz_env_tree.specs.pz_rules.Asking as asking
+use Rattle.pz_env_tree.specs.pz_rules.Asking.{Asks}
+use Rattle.pz_env_tree.specs.pz_rules.Delays as delays
+use Rattle.pz_env_tree.specs.pz_rules.Delays.{Delays}
+use Rattle.pz_env_tree.specs.pz_env_script.declared.entry.Transfer.{Transfer}
+use Rattle.pz_env_tree.specs.pz_env_script.declared.entry.Transfer.TheVariants.{Send, Receive}
+use Rattle.pz_env_tree.specs.pz_env_script.Entries.{values_in}
 use Rattle.pz_env_tree.specs.pz_env_rules.Environment.{Line, at_line, wait_of}
 use Rattle.pz_env_tree.specs.pz_env_rules.Ends.{named_at}
 use Rattle.pz_env_tree.specs.EnvironmentClass.{unless_none}

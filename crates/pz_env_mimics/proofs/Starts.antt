@@ -1,22 +1,22 @@
 -- Both start the same.
 use Rattle.std.proofs.Common.{◌≡◌, ◌≢◌, ◌≤◌, ℕ, zero, suc, List, [], ◌∷◌, length, Option, Some, slice_get, refl, sym, ap, subst, ◌∙◌, arith}
-use Rattle.pz_syntax.specs.Expressions.{none}
-use Rattle.pz_syntax.specs.Statements.{call}
-use Rattle.pz_syntax.specs.Classes.{ModelTree}
-use Rattle.pz_classes.specs.Bodies.{BodyTree}
+use Rattle.pz_env_tree.specs.pz_syntax.Expressions.{none}
+use Rattle.pz_env_tree.specs.pz_syntax.Statements.{call}
+use Rattle.pz_env_tree.specs.pz_syntax.Classes.{ModelTree}
+use Rattle.pz_env_tree.specs.pz_classes_rules.Bodies.{BodyTree}
 use Rattle.pz_bind_levels.specs.Places.{Address}
-use Rattle.pz_bind.specs.Nest.{processes}
-use Rattle.pz_bind.specs.Values.{values_at}
-use Rattle.pz_state.specs.States.{StateView, initial, opened as with_frame}
-use Rattle.pz_rules.specs.declared.limits.Edition.{Edition}
-use Rattle.pz_rules.specs.Terms.{Step, sequence, leaf}
-use Rattle.pz_rules.specs.Settings.{Process, left_by, Home}
-use Rattle.pz_rules.specs.Opening.{depth_of, enter_in, entered_to, by_body, opened, steps_opened, in_frame}
-use Rattle.pz_rules.specs.Framing.{framed}
-use Rattle.pz_rules.specs.FrameNumbers.{least_free}
-use Rattle.pz_rules.specs.Leaving.{swept}
-use Rattle.pz_rules.specs.Configurations.{Config}
-use Rattle.pz_rules.specs.Starting.{home_at, begins_with, StartsAs, IsStart}
+use Rattle.pz_env_tree.specs.pz_bind_rules.Nest.{processes}
+use Rattle.pz_env_tree.specs.pz_bind_rules.Values.{values_at}
+use Rattle.pz_env_tree.specs.pz_state.States.{StateView, initial, opened as with_frame}
+use Rattle.pz_env_tree.specs.pz_rules.declared.limits.Edition.{Edition}
+use Rattle.pz_env_tree.specs.pz_rules.Terms.{Step, sequence, leaf}
+use Rattle.pz_env_tree.specs.pz_rules.Settings.{Process, left_by, Home}
+use Rattle.pz_env_tree.specs.pz_rules.Opening.{depth_of, enter_in, entered_to, by_body, opened, steps_opened, in_frame}
+use Rattle.pz_env_tree.specs.pz_rules.Framing.{framed}
+use Rattle.pz_env_tree.specs.pz_rules.FrameNumbers.{least_free}
+use Rattle.pz_env_tree.specs.pz_rules.Leaving.{swept}
+use Rattle.pz_env_tree.specs.pz_rules.Configurations.{Config}
+use Rattle.pz_env_tree.specs.pz_rules.Starting.{home_at, begins_with, StartsAs, IsStart}
 use Rattle.pz_env_tree.specs.pz_env_rules.Environment.{Line, begins, Environment}
 use Rattle.pz_env_tree.specs.pz_env_rules.Joining.{Driving}
 use Rattle.pz_env_tree.specs.pz_env_rules.Driven.{Driven, IsDrivenStart}

@@ -1,13 +1,13 @@
 -- The laws: runs, chosen runs and texts of both are the same.
 use Rattle.std.proofs.Common.{◌≡◌, ◌↔◌, ℕ, List, ◌++◌, sym, ap, ◌∙◌}
-use Rattle.pz_syntax.specs.Classes.{ModelTree}
-use Rattle.pz_rules.specs.Configurations.{Config}
-use Rattle.pz_rules.specs.Starting.{IsStart}
-use Rattle.pz_rules.specs.Runs.{Event, Standing, Reaches, Ending as RunEnding}
-use Rattle.pz_rules.specs.ChosenRuns.{Policy, IsChosenRun}
-use Rattle.pz_trace.specs.declared.ending.Ending.{Ending}
-use Rattle.pz_trace.specs.Lines as trace
-use Rattle.pz_trace.specs.TraceText.{run_ending, events_text}
+use Rattle.pz_env_tree.specs.pz_syntax.Classes.{ModelTree}
+use Rattle.pz_env_tree.specs.pz_rules.Configurations.{Config}
+use Rattle.pz_env_tree.specs.pz_rules.Starting.{IsStart}
+use Rattle.pz_env_tree.specs.pz_rules.Runs.{Event, Standing, Reaches, Ending as RunEnding}
+use Rattle.pz_env_tree.specs.pz_rules.ChosenRuns.{Policy, IsChosenRun}
+use Rattle.pz_env_tree.specs.pz_trace.declared.ending.Ending.{Ending}
+use Rattle.pz_env_tree.specs.pz_trace.Lines as trace
+use Rattle.pz_env_tree.specs.pz_trace.TraceText.{run_ending, events_text}
 use Rattle.pz_env_tree.specs.pz_env_rules.Joining.{Driving}
 use Rattle.pz_env_tree.specs.pz_env_rules.Driven.{Driven, IsDrivenStart}
 use Rattle.pz_env_tree.specs.pz_env_rules.Runs.{DrivenReaches}

@@ -2,12 +2,12 @@
 use Rattle.std.proofs.Common.{◌≡◌, ◌≢◌, ℕ, suc, List, [], ◌∷◌, All, pos, unsigned_abs, refl, sym, ap, ◌∙◌}
 use Rattle.std.specs.Prelude.{ℤ}
 use Rattle.std.proofs.lemmas.List.Elements.{All-nil, All-cons}
-use Rattle.pz_value.specs.declared.value.Value.{Value}
-use Rattle.pz_env_script.specs.declared.entry.Entry.{Entry}
-use Rattle.pz_env_script.specs.declared.entry.Transfer.{Transfer}
-use Rattle.pz_env_script.specs.Literals.{IsLiteral, nothing, truth, falsehood, number, negative, AreLiterals, none, more}
-use Rattle.pz_env_script.specs.Entries.{IsTransfer, sends, receives, IsEntry, values_in}
-use Rattle.pz_env_script.specs.Scripts.{AreEntries, IsWritten}
+use Rattle.pz_env_tree.specs.pz_value.declared.value.Value.{Value}
+use Rattle.pz_env_tree.specs.pz_env_script.declared.entry.Entry.{Entry}
+use Rattle.pz_env_tree.specs.pz_env_script.declared.entry.Transfer.{Transfer}
+use Rattle.pz_env_tree.specs.pz_env_script.Literals.{IsLiteral, nothing, truth, falsehood, number, negative, AreLiterals, none, more}
+use Rattle.pz_env_tree.specs.pz_env_script.Entries.{IsTransfer, sends, receives, IsEntry, values_in}
+use Rattle.pz_env_tree.specs.pz_env_script.Scripts.{AreEntries, IsWritten}
 use Rattle.pz_env_tree.specs.pz_env_rules.Environment.{Line, lines_from, lines_of}
 use Rattle.pz_env_mimics.specs.Environments.{IsPlain, ArePlain}
 use Rattle.pz_env_mimics.proofs.Literals.{IsConstant}

@@ -1,18 +1,18 @@
 -- A model in which a process stands for the environment of a driven system, and what is the same in both.
 use Rattle.std.specs.Prelude.{◌≡◌, ◌≤◌, ◌<◌, ℕ, List}
 use Rattle.std.specs.List.{AllZip}
-use Rattle.pz_syntax.specs.declared.tokens.Pos.{Pos}
-use Rattle.pz_syntax.specs.Classes.{ModelTree}
-use Rattle.pz_copy.specs.Parcels.{ParcelView}
-use Rattle.pz_offer.specs.declared.end.End.{End}
-use Rattle.pz_rules.specs.declared.limits.Edition.TheVariants.{Two}
-use Rattle.pz_rules.specs.declared.limits.Limits.{Limits}
-use Rattle.pz_rules.specs.declared.action.Kind.{Kind}
-use Rattle.pz_rules.specs.declared.action.Action.{Action}
-use Rattle.pz_rules.specs.declared.action.Action.TheVariants.{Internal, Comm}
-use Rattle.pz_rules.specs.Settings.{Setting}
-use Rattle.pz_rules.specs.Runs as runs
-use Rattle.pz_rules.specs.Runs.{Event}
+use Rattle.pz_env_tree.specs.pz_syntax.declared.tokens.Pos.{Pos}
+use Rattle.pz_env_tree.specs.pz_syntax.Classes.{ModelTree}
+use Rattle.pz_env_tree.specs.pz_copy.Parcels.{ParcelView}
+use Rattle.pz_env_tree.specs.pz_offer.declared.end.End.{End}
+use Rattle.pz_env_tree.specs.pz_rules.declared.limits.Edition.TheVariants.{Two}
+use Rattle.pz_env_tree.specs.pz_rules.declared.limits.Limits.{Limits}
+use Rattle.pz_env_tree.specs.pz_rules.declared.action.Kind.{Kind}
+use Rattle.pz_env_tree.specs.pz_rules.declared.action.Action.{Action}
+use Rattle.pz_env_tree.specs.pz_rules.declared.action.Action.TheVariants.{Internal, Comm}
+use Rattle.pz_env_tree.specs.pz_rules.Settings.{Setting}
+use Rattle.pz_env_tree.specs.pz_rules.Runs as runs
+use Rattle.pz_env_tree.specs.pz_rules.Runs.{Event}
 use Rattle.pz_env_tree.specs.pz_env_rules.Joining.{Driving}
 use Rattle.pz_env_tree.specs.pz_env_rules.Driven.{environment_number}
 use Rattle.pz_env_same.specs.SameRules.{SameRules, in_model}

@@ -1,33 +1,33 @@
 -- What stands for the environment of a driven system in another model: one process more, numbered after all
 -- processes of the system, whose one method does the lines of the script.
 use Rattle.std.specs.Prelude.{◌≡◌, ◌≢◌, ◌↔◌, ◌≤◌, ◌<◌, ℕ, pos, List, [], ◌∷◌, ◌++◌, replicate, length, All, Contains, Some, None, codes}
-use Rattle.pz_syntax.specs.declared.tokens.Pos.{Pos}
-use Rattle.pz_syntax.specs.declared.names.Id.{Id}
-use Rattle.pz_syntax.specs.declared.exprs.Literal.TheVariants as literal
-use Rattle.pz_syntax.specs.Expressions as expression
-use Rattle.pz_syntax.specs.Expressions.{none, more, Part, left_out, written}
-use Rattle.pz_syntax.specs.Statements.{delay, send, receive, call, no_statements, then}
-use Rattle.pz_syntax.specs.Classes.{ModelTree}
-use Rattle.pz_value.specs.declared.value.ClassId.{ClassId}
-use Rattle.pz_value.specs.declared.value.Value.{Value}
-use Rattle.pz_value.specs.declared.value.Value.TheVariants.{Nil}
-use Rattle.pz_classes_code.specs.declared.slot.Slot.{Slot}
-use Rattle.pz_classes_code.specs.declared.slot.Slot.TheVariants.{Shared}
-use Rattle.pz_classes_code.specs.Literals.{constant}
-use Rattle.pz_classes.specs.Bodies.{process_body}
-use Rattle.pz_classes.specs.MethodBodies.{process_method_body}
-use Rattle.pz_classes.specs.Starts.{init}
-use Rattle.pz_classes.specs.Tables.{class_names}
+use Rattle.pz_env_tree.specs.pz_syntax.declared.tokens.Pos.{Pos}
+use Rattle.pz_env_tree.specs.pz_syntax.declared.names.Id.{Id}
+use Rattle.pz_env_tree.specs.pz_syntax.declared.exprs.Literal.TheVariants as literal
+use Rattle.pz_env_tree.specs.pz_syntax.Expressions as expression
+use Rattle.pz_env_tree.specs.pz_syntax.Expressions.{none, more, Part, left_out, written}
+use Rattle.pz_env_tree.specs.pz_syntax.Statements.{delay, send, receive, call, no_statements, then}
+use Rattle.pz_env_tree.specs.pz_syntax.Classes.{ModelTree}
+use Rattle.pz_env_tree.specs.pz_value.declared.value.ClassId.{ClassId}
+use Rattle.pz_env_tree.specs.pz_value.declared.value.Value.{Value}
+use Rattle.pz_env_tree.specs.pz_value.declared.value.Value.TheVariants.{Nil}
+use Rattle.pz_env_tree.specs.pz_classes_code.declared.slot.Slot.{Slot}
+use Rattle.pz_env_tree.specs.pz_classes_code.declared.slot.Slot.TheVariants.{Shared}
+use Rattle.pz_env_tree.specs.pz_classes_code.Literals.{constant}
+use Rattle.pz_env_tree.specs.pz_classes_rules.Bodies.{process_body}
+use Rattle.pz_env_tree.specs.pz_classes_rules.MethodBodies.{process_method_body}
+use Rattle.pz_env_tree.specs.pz_classes_rules.Starts.{init}
+use Rattle.pz_env_tree.specs.pz_classes_rules.ClassNames.{class_names}
 use Rattle.pz_classes_openings.specs.Methods.{methods}
 use Rattle.pz_bind_levels.specs.Places.{Address}
-use Rattle.pz_bind.specs.Nest.{processes, class_at}
-use Rattle.pz_bind.specs.Values.{values_at}
-use Rattle.pz_rules.specs.Terms.{Codes, Step, Steps}
-use Rattle.pz_rules.specs.Ports.{IsWire}
-use Rattle.pz_trace.specs.Labels.{path_of, wire_of}
-use Rattle.pz_env_script.specs.declared.entry.Transfer.{Transfer}
-use Rattle.pz_env_script.specs.declared.entry.Transfer.TheVariants.{Send, Receive}
-use Rattle.pz_env_script.specs.Entries.{values_in}
+use Rattle.pz_env_tree.specs.pz_bind_rules.Nest.{processes, class_at}
+use Rattle.pz_env_tree.specs.pz_bind_rules.Values.{values_at}
+use Rattle.pz_env_tree.specs.pz_rules.Terms.{Codes, Step, Steps}
+use Rattle.pz_env_tree.specs.pz_rules.Ports.{IsWire}
+use Rattle.pz_env_tree.specs.pz_trace.Labels.{path_of, wire_of}
+use Rattle.pz_env_tree.specs.pz_env_script.declared.entry.Transfer.{Transfer}
+use Rattle.pz_env_tree.specs.pz_env_script.declared.entry.Transfer.TheVariants.{Send, Receive}
+use Rattle.pz_env_tree.specs.pz_env_script.Entries.{values_in}
 use Rattle.pz_env_tree.specs.pz_env_rules.Environment.{Line, at_line, wait_of}
 use Rattle.pz_env_tree.specs.pz_env_rules.Ends.{named_at}
 use Rattle.pz_env_tree.specs.pz_env_rules.Joining.{Driving}

@@ -1,19 +1,19 @@
 -- Laws of a driven system and of a model that closes it: their runs are the same, and so are their texts.
 use Rattle.std.specs.Prelude.{◌≡◌, ◌↔◌, ℕ, List, ◌++◌}
 use Rattle.std.specs.List.{flat_map}
-use Rattle.pz_syntax.specs.Classes.{ModelTree}
-use Rattle.pz_rules.specs.declared.moment.Moment.{Moment}
-use Rattle.pz_rules.specs.Configurations.{Config}
-use Rattle.pz_rules.specs.Starting.{IsStart}
-use Rattle.pz_rules.specs.Moments.{IsMoment}
-use Rattle.pz_rules.specs.Runs.{Event, Standing, Reaches, Ending as RunEnding, Ends}
-use Rattle.pz_rules.specs.ChosenRuns.{Policy, IsChosenRun}
-use Rattle.pz_trace.specs.declared.ending.Ending.{Ending}
-use Rattle.pz_trace.specs.Lines as trace
-use Rattle.pz_trace.specs.TraceText as trace_text
-use Rattle.pz_trace.specs.TraceText.{run_ending, events_text}
-use Rattle.pz_env_script.specs.declared.entry.Entry.{Entry}
-use Rattle.pz_env_script.specs.Scripts.{IsWritten}
+use Rattle.pz_env_tree.specs.pz_syntax.Classes.{ModelTree}
+use Rattle.pz_env_tree.specs.pz_rules.declared.moment.Moment.{Moment}
+use Rattle.pz_env_tree.specs.pz_rules.Configurations.{Config}
+use Rattle.pz_env_tree.specs.pz_rules.Starting.{IsStart}
+use Rattle.pz_env_tree.specs.pz_rules.Moments.{IsMoment}
+use Rattle.pz_env_tree.specs.pz_rules.Runs.{Event, Standing, Reaches, Ending as RunEnding, Ends}
+use Rattle.pz_env_tree.specs.pz_rules.ChosenRuns.{Policy, IsChosenRun}
+use Rattle.pz_env_tree.specs.pz_trace.declared.ending.Ending.{Ending}
+use Rattle.pz_env_tree.specs.pz_trace.Lines as trace
+use Rattle.pz_env_tree.specs.pz_trace.TraceText as trace_text
+use Rattle.pz_env_tree.specs.pz_trace.TraceText.{run_ending, events_text}
+use Rattle.pz_env_tree.specs.pz_env_script.declared.entry.Entry.{Entry}
+use Rattle.pz_env_tree.specs.pz_env_script.Scripts.{IsWritten}
 use Rattle.pz_env_tree.specs.pz_env_rules.Environment.{lines_of}
 use Rattle.pz_env_tree.specs.pz_env_rules.Joining.{Driving}
 use Rattle.pz_env_tree.specs.pz_env_rules.Driven.{Driven, IsDrivenStart}

@@ -13,7 +13,7 @@ pub fn runs_are_the_same()
     ensures chosen_closed { ChosenClosedAreDriven }
     ensures texts { TextsAreSame }
 {
-    pz_rules::laws::one_next();
+    pz_env_tree::pz_rules::laws::one_next();
     pz_env_same::laws::processes_see_the_same();
     pz_env_same::laws::parts_are_the_same();
     pz_env_same::laws::processes_stand_in_both();

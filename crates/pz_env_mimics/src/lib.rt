@@ -2,3 +2,5 @@
 #![tactic(auto)]
 
 pub mod laws;
+
+pub use pz_env_tree::{pz_classes_rules, pz_env_script, pz_rules};

@@ -2,17 +2,17 @@
 use Rattle.std.proofs.Common.{◌≡◌, ◌<◌, sym, ◌∙◌, ℕ, Bool, true, List, length, Ok, Err, Result, arith}
 use Rattle.std.proofs.lemmas.Option.{slice_get_within}
 use Rattle.std.proofs.lemmas.List.Elements.{All-weaker}
-use Rattle.pz_copy.specs.Parcels.{ParcelView}
-use Rattle.pz_bind.specs.Nest.{processes}
-use Rattle.pz_offer.specs.declared.end.End.{End}
-use Rattle.pz_offer.specs.declared.trouble.Trouble.{Trouble}
-use Rattle.pz_rules.specs.declared.action.Action.{Action}
-use Rattle.pz_rules.specs.declared.moment.Moment.{Moment}
-use Rattle.pz_rules.specs.Terms.{Term}
-use Rattle.pz_rules.specs.Settings.{Context}
-use Rattle.pz_rules.specs.Offers.{PartAt, IsPair, IsJudged, Offers, internal, communication, IsOffers}
-use Rattle.pz_rules.specs.Moments as moments
-use Rattle.pz_rules.specs.Moments.{Source, Troubles, IsLeastTrouble, IsLeft, Candidate, IsMoment}
+use Rattle.pz_trace.specs.pz_copy.Parcels.{ParcelView}
+use Rattle.pz_trace.specs.pz_bind_rules.Nest.{processes}
+use Rattle.pz_trace.specs.pz_offer.declared.end.End.{End}
+use Rattle.pz_trace.specs.pz_offer.declared.trouble.Trouble.{Trouble}
+use Rattle.pz_trace.specs.pz_rules.declared.action.Action.{Action}
+use Rattle.pz_trace.specs.pz_rules.declared.moment.Moment.{Moment}
+use Rattle.pz_trace.specs.pz_rules.Terms.{Term}
+use Rattle.pz_trace.specs.pz_rules.Settings.{Context}
+use Rattle.pz_trace.specs.pz_rules.Offers.{PartAt, IsPair, IsJudged, Offers, internal, communication, IsOffers}
+use Rattle.pz_trace.specs.pz_rules.Moments as moments
+use Rattle.pz_trace.specs.pz_rules.Moments.{Source, Troubles, IsLeastTrouble, IsLeft, Candidate, IsMoment}
 use Rattle.pz_env_rules.specs.Environment.{Line, over, waits, offers}
 use Rattle.pz_env_rules.specs.Joining.{Driving}
 use Rattle.pz_env_rules.specs.Driven.{Driven, environment_end}

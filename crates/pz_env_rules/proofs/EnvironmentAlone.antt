@@ -2,25 +2,25 @@
 use Rattle.std.proofs.Common.{◌≡◌, ◌<◌, ◌≤◌, inl, inr, refl, sym, ap, subst, ◌∙◌, ℕ, suc, List, [], ◌∷◌, length, Some, None, arith, lit≤}
 use Rattle.std.specs.Prelude.{slice_get}
 use Rattle.std.proofs.lemmas.List.Elements.{All-nil, All-cons}
-use Rattle.pz_syntax.specs.declared.tokens.Pos.{Pos}
-use Rattle.pz_value.specs.declared.value.Value.{Value}
-use Rattle.pz_copy.specs.Parcels.{ParcelView}
+use Rattle.pz_trace.specs.pz_syntax.declared.tokens.Pos.{Pos}
+use Rattle.pz_trace.specs.pz_value.declared.value.Value.{Value}
+use Rattle.pz_trace.specs.pz_copy.Parcels.{ParcelView}
 use Rattle.pz_bind_levels.specs.Places.{Address}
-use Rattle.pz_bind.specs.Nest.{processes}
-use Rattle.pz_offer.specs.declared.end.End.{End}
-use Rattle.pz_offer.specs.declared.trouble.Trouble.{Trouble}
-use Rattle.pz_offer.specs.declared.trouble.Trouble.TheVariants.{Spent}
-use Rattle.pz_rules.specs.declared.action.Kind.{Kind}
-use Rattle.pz_rules.specs.declared.action.Kind.TheVariants.{Expire}
-use Rattle.pz_rules.specs.declared.action.Action.{Action}
-use Rattle.pz_rules.specs.declared.action.Action.TheVariants.{Internal}
-use Rattle.pz_rules.specs.declared.moment.Moment.{Moment}
-use Rattle.pz_rules.specs.declared.moment.Moment.TheVariants.{Actions, Time, Deadlock, Faulty}
-use Rattle.pz_rules.specs.Terms.{Term}
-use Rattle.pz_rules.specs.Settings.{Context}
-use Rattle.pz_rules.specs.Offers.{PartAt, Offers, internal}
-use Rattle.pz_rules.specs.Moments as moments
-use Rattle.pz_rules.specs.Moments.{IsFirstHigh, Source, part, SourceBefore, Troubles, rank}
+use Rattle.pz_trace.specs.pz_bind_rules.Nest.{processes}
+use Rattle.pz_trace.specs.pz_offer.declared.end.End.{End}
+use Rattle.pz_trace.specs.pz_offer.declared.trouble.Trouble.{Trouble}
+use Rattle.pz_trace.specs.pz_offer.declared.trouble.Trouble.TheVariants.{Spent}
+use Rattle.pz_trace.specs.pz_rules.declared.action.Kind.{Kind}
+use Rattle.pz_trace.specs.pz_rules.declared.action.Kind.TheVariants.{Expire}
+use Rattle.pz_trace.specs.pz_rules.declared.action.Action.{Action}
+use Rattle.pz_trace.specs.pz_rules.declared.action.Action.TheVariants.{Internal}
+use Rattle.pz_trace.specs.pz_rules.declared.moment.Moment.{Moment}
+use Rattle.pz_trace.specs.pz_rules.declared.moment.Moment.TheVariants.{Actions, Time, Deadlock, Faulty}
+use Rattle.pz_trace.specs.pz_rules.Terms.{Term}
+use Rattle.pz_trace.specs.pz_rules.Settings.{Context}
+use Rattle.pz_trace.specs.pz_rules.Offers.{PartAt, Offers, internal}
+use Rattle.pz_trace.specs.pz_rules.Moments as moments
+use Rattle.pz_trace.specs.pz_rules.Moments.{IsFirstHigh, Source, part, SourceBefore, Troubles, rank}
 use Rattle.pz_env_script.specs.declared.entry.Transfer.TheVariants.{Send}
 use Rattle.pz_env_rules.specs.Environment.{Line, at_line, over, waits, offers}
 use Rattle.pz_env_rules.specs.Joining.{Driving}

@@ -2,17 +2,17 @@
 use Rattle.std.proofs.Common.{◌≡◌, refl, List, [], ◌∷◌, Some}
 use Rattle.std.specs.Prelude.{codes, pos}
 use Rattle.std.specs.Fmt.{digits}
-use Rattle.pz_syntax.specs.declared.clusters.Channel.{Channel}
-use Rattle.pz_syntax.specs.declared.clusters.ChannelEnd.TheVariants.{Inner}
-use Rattle.pz_value.specs.declared.value.Value.TheVariants.{Int}
-use Rattle.pz_bind.specs.Nest.{processes}
-use Rattle.pz_bind.specs.Wires.{wires}
+use Rattle.pz_trace.specs.pz_syntax.declared.clusters.Channel.{Channel}
+use Rattle.pz_trace.specs.pz_syntax.declared.clusters.ChannelEnd.TheVariants.{Inner}
+use Rattle.pz_trace.specs.pz_value.declared.value.Value.TheVariants.{Int}
+use Rattle.pz_trace.specs.pz_bind_rules.Nest.{processes}
+use Rattle.pz_trace.specs.pz_bind_rules.Wires.{wires}
 use Rattle.pz_bind_levels.specs.Wires.{channel}
-use Rattle.pz_offer.specs.declared.end.End.{End}
-use Rattle.pz_offer.specs.PlaceOrder.{Place}
-use Rattle.pz_rules.specs.declared.action.Kind.TheVariants.{Expire}
-use Rattle.pz_rules.specs.declared.action.Action.TheVariants.{Internal, Comm}
-use Rattle.pz_rules.specs.Runs.{Event, acted, passed}
+use Rattle.pz_trace.specs.pz_offer.declared.end.End.{End}
+use Rattle.pz_trace.specs.pz_offer.PlaceOrder.{Place}
+use Rattle.pz_trace.specs.pz_rules.declared.action.Kind.TheVariants.{Expire}
+use Rattle.pz_trace.specs.pz_rules.declared.action.Action.TheVariants.{Internal, Comm}
+use Rattle.pz_trace.specs.pz_rules.Runs.{Event, acted, passed}
 use Rattle.pz_trace.specs.declared.ending.Ending.TheVariants as ending
 use Rattle.pz_env_script.specs.declared.entry.Entry.{Entry}
 use Rattle.pz_env_script.specs.declared.entry.Transfer.TheVariants.{Send, Receive}

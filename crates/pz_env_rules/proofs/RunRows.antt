@@ -2,15 +2,15 @@
 use Rattle.std.proofs.Common.{◌≡◌, ◌<◌, ◌≤◌, refl, sym, ap, ◌∙◌, ℕ, List, [], ◌∷◌, length, Some, None, arith, lit<}
 use Rattle.std.specs.Prelude.{codes, pos, slice_get}
 use Rattle.std.specs.Fmt.{digits}
-use Rattle.pz_syntax.specs.Classes.{ModelTree}
-use Rattle.pz_value.specs.declared.value.Value.{Value}
-use Rattle.pz_value.specs.declared.value.Value.TheVariants.{Int}
-use Rattle.pz_offer.specs.declared.trouble.Trouble.TheVariants.{Spent}
-use Rattle.pz_rules.specs.declared.action.Kind.TheVariants.{Expire}
-use Rattle.pz_rules.specs.declared.action.Action.TheVariants.{Internal}
-use Rattle.pz_rules.specs.declared.limits.Limits.{Limits}
-use Rattle.pz_rules.specs.Settings.{Process}
-use Rattle.pz_rules.specs.Runs.{acted, passed, whole}
+use Rattle.pz_trace.specs.pz_syntax.Classes.{ModelTree}
+use Rattle.pz_trace.specs.pz_value.declared.value.Value.{Value}
+use Rattle.pz_trace.specs.pz_value.declared.value.Value.TheVariants.{Int}
+use Rattle.pz_trace.specs.pz_offer.declared.trouble.Trouble.TheVariants.{Spent}
+use Rattle.pz_trace.specs.pz_rules.declared.action.Kind.TheVariants.{Expire}
+use Rattle.pz_trace.specs.pz_rules.declared.action.Action.TheVariants.{Internal}
+use Rattle.pz_trace.specs.pz_rules.declared.limits.Limits.{Limits}
+use Rattle.pz_trace.specs.pz_rules.Settings.{Process}
+use Rattle.pz_trace.specs.pz_rules.Runs.{acted, passed, whole}
 use Rattle.pz_trace.specs.declared.ending.Ending.TheVariants as ending
 use Rattle.pz_env_script.specs.declared.entry.Transfer.{Transfer}
 use Rattle.pz_env_script.specs.declared.entry.Transfer.TheVariants.{Send}

@@ -8,19 +8,19 @@
 --   methods a()() i?m(x | x > 2); delay 1
 --   system instances r : R
 use Rattle.std.specs.Prelude.{ℕ, pos, false, List, [], ◌∷◌, Option, Some, None, codes}
-use Rattle.pz_syntax.specs.declared.tokens.Pos.{Pos}
-use Rattle.pz_syntax.specs.declared.tokens.Symbol.TheVariants.{Greater}
-use Rattle.pz_syntax.specs.declared.names.Id.{Id}
-use Rattle.pz_syntax.specs.declared.clusters.Channel.{Channel}
-use Rattle.pz_syntax.specs.declared.clusters.Instance.{Instance}
-use Rattle.pz_syntax.specs.declared.exprs.Literal.TheVariants as literal
-use Rattle.pz_syntax.specs.Expressions as expression
-use Rattle.pz_syntax.specs.Expressions.{variable, chain, none, left_out, no_links, link}
-use Rattle.pz_syntax.specs.Statements.{delay, receive, no_statements, then}
-use Rattle.pz_syntax.specs.Classes.{process_class, system, DeclTree, ModelTree}
-use Rattle.pz_value.specs.declared.value.Value.TheVariants.{Int}
-use Rattle.pz_rules.specs.declared.limits.Edition.TheVariants.{Two}
-use Rattle.pz_rules.specs.declared.limits.Limits.{Limits}
+use Rattle.pz_trace.specs.pz_syntax.declared.tokens.Pos.{Pos}
+use Rattle.pz_trace.specs.pz_syntax.declared.tokens.Symbol.TheVariants.{Greater}
+use Rattle.pz_trace.specs.pz_syntax.declared.names.Id.{Id}
+use Rattle.pz_trace.specs.pz_syntax.declared.clusters.Channel.{Channel}
+use Rattle.pz_trace.specs.pz_syntax.declared.clusters.Instance.{Instance}
+use Rattle.pz_trace.specs.pz_syntax.declared.exprs.Literal.TheVariants as literal
+use Rattle.pz_trace.specs.pz_syntax.Expressions as expression
+use Rattle.pz_trace.specs.pz_syntax.Expressions.{variable, chain, none, left_out, no_links, link}
+use Rattle.pz_trace.specs.pz_syntax.Statements.{delay, receive, no_statements, then}
+use Rattle.pz_trace.specs.pz_syntax.Classes.{process_class, system, DeclTree, ModelTree}
+use Rattle.pz_trace.specs.pz_value.declared.value.Value.TheVariants.{Int}
+use Rattle.pz_trace.specs.pz_rules.declared.limits.Edition.TheVariants.{Two}
+use Rattle.pz_trace.specs.pz_rules.declared.limits.Limits.{Limits}
 use Rattle.pz_env_script.specs.declared.entry.Entry.{Entry}
 use Rattle.pz_env_script.specs.declared.entry.Transfer.{Transfer}
 use Rattle.pz_env_script.specs.declared.entry.Transfer.TheVariants.{Send}

@@ -1,10 +1,10 @@
 -- The driven run that a policy chooses.
 use Rattle.std.specs.Prelude.{◌≡◌, ℕ, suc, List, [], ◌∷◌, Ok, Err}
-use Rattle.pz_offer.specs.declared.trouble.Trouble.{Trouble}
-use Rattle.pz_rules.specs.declared.action.Action.{Action}
-use Rattle.pz_rules.specs.declared.moment.Moment.{Moment}
-use Rattle.pz_rules.specs.Runs.{Event, acted, passed, Ending, troubled}
-use Rattle.pz_rules.specs.ChosenRuns.{Policy, decided, stops_with, takes, waits}
+use Rattle.pz_trace.specs.pz_offer.declared.trouble.Trouble.{Trouble}
+use Rattle.pz_trace.specs.pz_rules.declared.action.Action.{Action}
+use Rattle.pz_trace.specs.pz_rules.declared.moment.Moment.{Moment}
+use Rattle.pz_trace.specs.pz_rules.Runs.{Event, acted, passed, Ending, troubled}
+use Rattle.pz_trace.specs.pz_rules.ChosenRuns.{Policy, decided, stops_with, takes, waits}
 use Rattle.pz_env_rules.specs.Joining.{Driving}
 use Rattle.pz_env_rules.specs.Driven.{Driven}
 use Rattle.pz_env_rules.specs.Moments.{IsDrivenMoment}

@@ -1,18 +1,18 @@
 -- Where a driven system stands: its configuration, whose clock is that of both, and its environment,
 -- which is one more process, numbered after all others.
 use Rattle.std.specs.Prelude.{◌≡◌, ◌≤◌, ◌+◌, ℕ, List, [], length, Some, slice_get, if◌then◌else◌, nat_le, Result, Ok}
-use Rattle.pz_value.specs.declared.value.Value.{Value}
-use Rattle.pz_state.specs.States.{object_limit}
-use Rattle.pz_state.specs.declared.fault.FaultKind.TheVariants.{StoreFull}
-use Rattle.pz_copy.specs.Parcels.{ParcelView}
-use Rattle.pz_bind.specs.Nest.{processes}
+use Rattle.pz_trace.specs.pz_value.declared.value.Value.{Value}
+use Rattle.pz_trace.specs.pz_state.States.{object_limit}
+use Rattle.pz_trace.specs.pz_state.declared.fault.FaultKind.TheVariants.{StoreFull}
+use Rattle.pz_trace.specs.pz_copy.Parcels.{ParcelView}
+use Rattle.pz_trace.specs.pz_bind_rules.Nest.{processes}
 use Rattle.pz_bind_levels.specs.Wires.{channel}
-use Rattle.pz_bind.specs.Wires.{wires}
-use Rattle.pz_offer.specs.declared.end.End.{End}
-use Rattle.pz_offer.specs.declared.trouble.Trouble.{Trouble}
-use Rattle.pz_rules.specs.Meanings.{fault}
-use Rattle.pz_rules.specs.Configurations.{Config}
-use Rattle.pz_rules.specs.Starting.{IsStart}
+use Rattle.pz_trace.specs.pz_bind_rules.Wires.{wires}
+use Rattle.pz_trace.specs.pz_offer.declared.end.End.{End}
+use Rattle.pz_trace.specs.pz_offer.declared.trouble.Trouble.{Trouble}
+use Rattle.pz_trace.specs.pz_rules.Meanings.{fault}
+use Rattle.pz_trace.specs.pz_rules.Configurations.{Config}
+use Rattle.pz_trace.specs.pz_rules.Starting.{IsStart}
 use Rattle.pz_env_script.specs.declared.entry.Transfer.TheVariants.{Send, Receive}
 use Rattle.pz_env_rules.specs.Environment.{Line, at_line, offers, begins, Environment}
 use Rattle.pz_env_rules.specs.Ends.{IsEnd}

@@ -2,9 +2,9 @@
 use Rattle.std.specs.Prelude.{◌≡◌, ℕ, Bool, true, not, ◌&&◌, List, [], ◌∷◌, map, Some, slice_get}
 use Rattle.std.specs.List.{filter}
 use Rattle.std.specs.Str.{bytes_eq}
-use Rattle.pz_syntax.specs.declared.names.Id.{Id}
-use Rattle.pz_syntax.specs.declared.clusters.Channel.{Channel}
-use Rattle.pz_syntax.specs.declared.clusters.ChannelEnd.TheVariants.{Inner}
+use Rattle.pz_trace.specs.pz_syntax.declared.names.Id.{Id}
+use Rattle.pz_trace.specs.pz_syntax.declared.clusters.Channel.{Channel}
+use Rattle.pz_trace.specs.pz_syntax.declared.clusters.ChannelEnd.TheVariants.{Inner}
 use Rattle.pz_env_rules.specs.Environment.{Line, at_line}
 
 -- both lines name the same port of the same instance

@@ -1,7 +1,7 @@
 -- What an environment does next. It does the entries of its script one after the other: it waits as
 -- long as an entry says, and then it offers what the entry says, for as long as it takes.
 use Rattle.std.specs.Prelude.{ℕ, suc, ◌-◌, unsigned_abs, List, [], ◌∷◌}
-use Rattle.pz_syntax.specs.declared.tokens.Pos.{Pos}
+use Rattle.pz_trace.specs.pz_syntax.declared.tokens.Pos.{Pos}
 use Rattle.pz_env_script.specs.declared.entry.Entry.{Entry}
 
 -- an entry with the number of its line, from 1

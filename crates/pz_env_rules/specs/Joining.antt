@@ -2,12 +2,12 @@
 -- script names, in the order of first mention, and that end is in it. All else is as it was.
 use Rattle.std.specs.Prelude.{ℕ, List, [], ◌++◌, map, Some, length}
 use Rattle.std.specs.Option.{unwrap_or}
-use Rattle.pz_syntax.specs.declared.clusters.Channel.{Channel}
-use Rattle.pz_syntax.specs.declared.clusters.SystemDecl.{SystemDecl}
-use Rattle.pz_syntax.specs.Classes.{DeclTree, data_class, process_class, cluster_class, system, ModelTree}
-use Rattle.pz_bind.specs.Nest.{channels_at}
-use Rattle.pz_rules.specs.declared.limits.Limits.{Limits}
-use Rattle.pz_rules.specs.Settings.{Setting}
+use Rattle.pz_trace.specs.pz_syntax.declared.clusters.Channel.{Channel}
+use Rattle.pz_trace.specs.pz_syntax.declared.clusters.SystemDecl.{SystemDecl}
+use Rattle.pz_trace.specs.pz_syntax.Classes.{DeclTree, data_class, process_class, cluster_class, system, ModelTree}
+use Rattle.pz_trace.specs.pz_bind_rules.Nest.{channels_at}
+use Rattle.pz_trace.specs.pz_rules.declared.limits.Limits.{Limits}
+use Rattle.pz_trace.specs.pz_rules.Settings.{Setting}
 use Rattle.pz_env_script.specs.declared.entry.Entry.{Entry}
 use Rattle.pz_env_rules.specs.Environment.{Line, lines_of}
 use Rattle.pz_env_rules.specs.Ends.{further_channels}

@@ -1,9 +1,9 @@
 -- Laws of driven systems.
 use Rattle.std.specs.Prelude.{◌≡◌, ◌↔◌, List}
-use Rattle.pz_rules.specs.declared.action.Action.{Action}
-use Rattle.pz_rules.specs.declared.moment.Moment.{Moment}
-use Rattle.pz_rules.specs.Offers.{IsOffers}
-use Rattle.pz_rules.specs.Moments.{IsMoment}
+use Rattle.pz_trace.specs.pz_rules.declared.action.Action.{Action}
+use Rattle.pz_trace.specs.pz_rules.declared.moment.Moment.{Moment}
+use Rattle.pz_trace.specs.pz_rules.Offers.{IsOffers}
+use Rattle.pz_trace.specs.pz_rules.Moments.{IsMoment}
 use Rattle.pz_env_rules.specs.Environment.{over}
 use Rattle.pz_env_rules.specs.Joining.{Driving}
 use Rattle.pz_env_rules.specs.Driven.{Driven}

@@ -1,14 +1,14 @@
 -- What may happen next in a driven system: the first of these that applies.
 use Rattle.std.specs.Prelude.{◌≡◌, ◌≤◌, ◌<◌, ℕ, List, length, Err}
-use Rattle.pz_value.specs.declared.value.Value.{Value}
-use Rattle.pz_copy.specs.Parcels.{ParcelView}
-use Rattle.pz_offer.specs.declared.end.End.{End}
-use Rattle.pz_offer.specs.declared.trouble.Trouble.{Trouble}
-use Rattle.pz_offer.specs.declared.trouble.Trouble.TheVariants.{Spent}
-use Rattle.pz_rules.specs.declared.action.Action.{Action}
-use Rattle.pz_rules.specs.declared.moment.Moment.{Moment}
-use Rattle.pz_rules.specs.declared.moment.Moment.TheVariants.{Actions, Time, Finished, Deadlock, Faulty, Stopped}
-use Rattle.pz_rules.specs.Moments.{IsFirstHigh, Source, part, pair, SourceBefore, Troubles, IsLeft, AllDone, rank}
+use Rattle.pz_trace.specs.pz_value.declared.value.Value.{Value}
+use Rattle.pz_trace.specs.pz_copy.Parcels.{ParcelView}
+use Rattle.pz_trace.specs.pz_offer.declared.end.End.{End}
+use Rattle.pz_trace.specs.pz_offer.declared.trouble.Trouble.{Trouble}
+use Rattle.pz_trace.specs.pz_offer.declared.trouble.Trouble.TheVariants.{Spent}
+use Rattle.pz_trace.specs.pz_rules.declared.action.Action.{Action}
+use Rattle.pz_trace.specs.pz_rules.declared.moment.Moment.{Moment}
+use Rattle.pz_trace.specs.pz_rules.declared.moment.Moment.TheVariants.{Actions, Time, Finished, Deadlock, Faulty, Stopped}
+use Rattle.pz_trace.specs.pz_rules.Moments.{IsFirstHigh, Source, part, pair, SourceBefore, Troubles, IsLeft, AllDone, rank}
 use Rattle.pz_env_script.specs.declared.entry.Transfer.TheVariants.{Send}
 use Rattle.pz_env_rules.specs.Environment.{Line, at_line, over, waits, offers}
 use Rattle.pz_env_rules.specs.Joining.{Driving}

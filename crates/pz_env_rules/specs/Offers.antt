@@ -1,21 +1,21 @@
 -- The actions that a driven system offers, in their order: those of its processes, and what the
 -- environment does by itself and together with them.
 use Rattle.std.specs.Prelude.{◌≡◌, ℕ, Bool, true, List, length, All, AllPairs, Contains, Result, Ok}
-use Rattle.pz_syntax.specs.declared.tokens.Pos.{Pos}
-use Rattle.pz_value.specs.declared.value.Value.{Value}
-use Rattle.pz_copy.specs.Parcels.{ParcelView}
-use Rattle.pz_offer.specs.declared.end.End.{End}
-use Rattle.pz_offer.specs.declared.trouble.Trouble.{Trouble}
-use Rattle.pz_rules.specs.declared.action.Kind.{Kind}
-use Rattle.pz_rules.specs.declared.action.Kind.TheVariants.{Expire}
-use Rattle.pz_rules.specs.declared.action.Action.{Action}
-use Rattle.pz_rules.specs.declared.action.Action.TheVariants.{Internal, Comm}
-use Rattle.pz_rules.specs.Terms.{Term}
-use Rattle.pz_rules.specs.Settings.{Context}
-use Rattle.pz_rules.specs.Messages.{Sends, Receives}
-use Rattle.pz_rules.specs.Ports.{IsWire}
-use Rattle.pz_rules.specs.Offers as system
-use Rattle.pz_rules.specs.Offers.{PartAt, IsPair, IsJudged, Before}
+use Rattle.pz_trace.specs.pz_syntax.declared.tokens.Pos.{Pos}
+use Rattle.pz_trace.specs.pz_value.declared.value.Value.{Value}
+use Rattle.pz_trace.specs.pz_copy.Parcels.{ParcelView}
+use Rattle.pz_trace.specs.pz_offer.declared.end.End.{End}
+use Rattle.pz_trace.specs.pz_offer.declared.trouble.Trouble.{Trouble}
+use Rattle.pz_trace.specs.pz_rules.declared.action.Kind.{Kind}
+use Rattle.pz_trace.specs.pz_rules.declared.action.Kind.TheVariants.{Expire}
+use Rattle.pz_trace.specs.pz_rules.declared.action.Action.{Action}
+use Rattle.pz_trace.specs.pz_rules.declared.action.Action.TheVariants.{Internal, Comm}
+use Rattle.pz_trace.specs.pz_rules.Terms.{Term}
+use Rattle.pz_trace.specs.pz_rules.Settings.{Context}
+use Rattle.pz_trace.specs.pz_rules.Messages.{Sends, Receives}
+use Rattle.pz_trace.specs.pz_rules.Ports.{IsWire}
+use Rattle.pz_trace.specs.pz_rules.Offers as system
+use Rattle.pz_trace.specs.pz_rules.Offers.{PartAt, IsPair, IsJudged, Before}
 use Rattle.pz_env_rules.specs.Environment.{Line, at_line, waits}
 use Rattle.pz_env_rules.specs.Joining.{Driving}
 use Rattle.pz_env_rules.specs.Driven.{Driven, environment_end, IsWireOf, plain, Gives, Gets}

@@ -1,10 +1,10 @@
 -- The driven runs of a system and a script: as the runs of a model, with what a driven system offers and
 -- with its moments and steps in their places.
 use Rattle.std.specs.Prelude.{◌≡◌, ℕ, List, [], ◌∷◌, length, Some, Ok, Err, slice_get}
-use Rattle.pz_offer.specs.declared.trouble.Trouble.{Trouble}
-use Rattle.pz_rules.specs.declared.action.Action.{Action}
-use Rattle.pz_rules.specs.declared.moment.Moment.TheVariants.{Actions, Time, Finished, Deadlock, Faulty, Stopped}
-use Rattle.pz_rules.specs.Runs.{Event, acted, passed, Standing, whole, stopped, Ending, ended, deadlocked, troubled, halted}
+use Rattle.pz_trace.specs.pz_offer.declared.trouble.Trouble.{Trouble}
+use Rattle.pz_trace.specs.pz_rules.declared.action.Action.{Action}
+use Rattle.pz_trace.specs.pz_rules.declared.moment.Moment.TheVariants.{Actions, Time, Finished, Deadlock, Faulty, Stopped}
+use Rattle.pz_trace.specs.pz_rules.Runs.{Event, acted, passed, Standing, whole, stopped, Ending, ended, deadlocked, troubled, halted}
 use Rattle.pz_env_rules.specs.Joining.{Driving}
 use Rattle.pz_env_rules.specs.Driven.{Driven}
 use Rattle.pz_env_rules.specs.Offers.{IsDrivenOffers}

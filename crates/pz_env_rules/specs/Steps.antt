@@ -1,17 +1,17 @@
 -- Where a driven system stands next, by an action or after a passing of time.
 use Rattle.std.specs.Prelude.{◌≡◌, ℕ, List, Result, Ok}
-use Rattle.pz_value.specs.declared.value.Value.{Value}
-use Rattle.pz_copy.specs.Parcels.{ParcelView}
-use Rattle.pz_offer.specs.declared.end.End.{End}
-use Rattle.pz_offer.specs.declared.trouble.Trouble.{Trouble}
-use Rattle.pz_rules.specs.declared.action.Kind.TheVariants.{Expire}
-use Rattle.pz_rules.specs.declared.action.Action.{Action}
-use Rattle.pz_rules.specs.declared.action.Action.TheVariants.{Internal, Comm}
-use Rattle.pz_rules.specs.Settings.{Process}
-use Rattle.pz_rules.specs.Meanings.{and_then}
-use Rattle.pz_rules.specs.Messages.{Hands, Takes}
-use Rattle.pz_rules.specs.Configurations.{Config}
-use Rattle.pz_rules.specs.Steps.{Acts, with_process, Next, PassesTo}
+use Rattle.pz_trace.specs.pz_value.declared.value.Value.{Value}
+use Rattle.pz_trace.specs.pz_copy.Parcels.{ParcelView}
+use Rattle.pz_trace.specs.pz_offer.declared.end.End.{End}
+use Rattle.pz_trace.specs.pz_offer.declared.trouble.Trouble.{Trouble}
+use Rattle.pz_trace.specs.pz_rules.declared.action.Kind.TheVariants.{Expire}
+use Rattle.pz_trace.specs.pz_rules.declared.action.Action.{Action}
+use Rattle.pz_trace.specs.pz_rules.declared.action.Action.TheVariants.{Internal, Comm}
+use Rattle.pz_trace.specs.pz_rules.Settings.{Process}
+use Rattle.pz_trace.specs.pz_rules.Meanings.{and_then}
+use Rattle.pz_trace.specs.pz_rules.Messages.{Hands, Takes}
+use Rattle.pz_trace.specs.pz_rules.Configurations.{Config}
+use Rattle.pz_trace.specs.pz_rules.Steps.{Acts, with_process, Next, PassesTo}
 use Rattle.pz_env_rules.specs.Environment.{Line, at_line, Doing, waits, offers, begins, later, Environment}
 use Rattle.pz_env_rules.specs.Joining.{Driving}
 use Rattle.pz_env_rules.specs.Driven.{Driven, environment_end, plain, Gives, Gets, stored}

@@ -2,3 +2,6 @@
 #![tactic(auto)]
 
 pub mod laws;
+
+pub use pz_env_script;
+pub use pz_trace::{pz_classes_rules, pz_rules};

@@ -1,14 +1,14 @@
 -- Where the plain calls with which statements begin open the same in two ways, so do the statements.
 use Rattle.std.proofs.Common.{◌≡◌, refl, ap, ◌∙◌, ℕ, List, [], ◌∷◌, ◌++◌}
 use Rattle.std.specs.List.{AllByRecursion}
-use Rattle.pz_syntax.specs.declared.tokens.Pos.{Pos}
-use Rattle.pz_syntax.specs.declared.names.Id.{Id}
-use Rattle.pz_syntax.specs.Expressions.{none, more}
-use Rattle.pz_syntax.specs.Statements.{skip, delay, bracketed, block, guarded, parallel, select, conditional, repeated, abort, interrupt, send, receive, call, assignment, value, no_statements, then, Branches, no_branches, branch}
-use Rattle.pz_value.specs.declared.value.ClassId.{ClassId}
-use Rattle.pz_classes_code.specs.declared.slot.Slot.{Slot}
+use Rattle.pz_rules.specs.pz_syntax.declared.tokens.Pos.{Pos}
+use Rattle.pz_rules.specs.pz_syntax.declared.names.Id.{Id}
+use Rattle.pz_rules.specs.pz_syntax.Expressions.{none, more}
+use Rattle.pz_rules.specs.pz_syntax.Statements.{skip, delay, bracketed, block, guarded, parallel, select, conditional, repeated, abort, interrupt, send, receive, call, assignment, value, no_statements, then, Branches, no_branches, branch}
+use Rattle.pz_rules.specs.pz_value.declared.value.ClassId.{ClassId}
+use Rattle.pz_rules.specs.pz_classes_code.declared.slot.Slot.{Slot}
 use Rattle.pz_classes_beginnings.specs.Beginning.{begun, begun_all, begun_each}
-use Rattle.pz_state.specs.States.{StateView, opened as with_frame}
+use Rattle.pz_rules.specs.pz_state.States.{StateView, opened as with_frame}
 use Rattle.pz_rules.specs.Terms as terms
 use Rattle.pz_rules.specs.Terms.{Step, Steps, Terms, and}
 use Rattle.pz_rules.specs.Settings.{Process, left_by}

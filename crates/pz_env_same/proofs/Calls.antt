@@ -2,16 +2,16 @@
 -- no fewer methods, however deep calls are followed.
 use Rattle.std.proofs.Common.{◌≡◌, refl, sym, subst, ◌∙◌, ap, ◌≤◌, ℕ, zero, suc, List, [], ◌∷◌, Option, Some, None, arith, Contains}
 use Rattle.std.specs.List.{AllByRecursion}
-use Rattle.pz_syntax.specs.declared.tokens.Pos.{Pos}
-use Rattle.pz_syntax.specs.declared.names.Id.{Id}
-use Rattle.pz_syntax.specs.Classes.{ModelTree}
-use Rattle.pz_classes.specs.declared.method_id.Counts.TheVariants.{Process as process_counts}
-use Rattle.pz_classes.specs.Bodies.{BodyTree, data_body, process_body}
-use Rattle.pz_classes.specs.MethodBodies.{process_method_body}
-use Rattle.pz_classes.specs.Methods.{method_id}
+use Rattle.pz_rules.specs.pz_syntax.declared.tokens.Pos.{Pos}
+use Rattle.pz_rules.specs.pz_syntax.declared.names.Id.{Id}
+use Rattle.pz_rules.specs.pz_syntax.Classes.{ModelTree}
+use Rattle.pz_rules.specs.pz_classes_rules.declared.method_id.Counts.TheVariants.{Process as process_counts}
+use Rattle.pz_rules.specs.pz_classes_rules.Bodies.{BodyTree, data_body, process_body}
+use Rattle.pz_rules.specs.pz_classes_rules.MethodBodies.{process_method_body}
+use Rattle.pz_rules.specs.pz_classes_rules.Methods.{method_id}
 use Rattle.pz_classes_beginnings.specs.Beginning.{begun_all}
 use Rattle.pz_classes_openings.specs.Openings.{called}
-use Rattle.pz_state.specs.States.{StateView, opened as with_frame}
+use Rattle.pz_rules.specs.pz_state.States.{StateView, opened as with_frame}
 use Rattle.pz_rules.specs.declared.limits.Edition.{Edition}
 use Rattle.pz_rules.specs.declared.limits.Edition.TheVariants.{One, Two}
 use Rattle.pz_rules.specs.Terms as terms

@@ -1,16 +1,16 @@
 -- What parts leave of themselves, and what the passing of time leaves of a term, is the same where a process
 -- sees the same.
 use Rattle.std.proofs.Common.{◌≡◌, ℕ, Bool, true, false, List, length, Result, Ok, Err, refl, sym, subst, ap, ◌∙◌}
-use Rattle.pz_syntax.specs.declared.tokens.Pos.{Pos}
-use Rattle.pz_syntax.specs.Statements.{StatementPart, call, conditional, repeated}
-use Rattle.pz_syntax.specs.Classes.{ModelTree}
-use Rattle.pz_value.specs.declared.value.ClassId.{ClassId}
-use Rattle.pz_value.specs.declared.value.Value.{Value}
-use Rattle.pz_classes_code.specs.declared.slot.Slot.{Slot}
-use Rattle.pz_classes.specs.FitBodies.{how_many}
-use Rattle.pz_state.specs.States.{StateView}
-use Rattle.pz_copy.specs.Parcels.{ParcelView}
-use Rattle.pz_offer.specs.declared.trouble.Trouble.{Trouble}
+use Rattle.pz_rules.specs.pz_syntax.declared.tokens.Pos.{Pos}
+use Rattle.pz_rules.specs.pz_syntax.Statements.{StatementPart, call, conditional, repeated}
+use Rattle.pz_rules.specs.pz_syntax.Classes.{ModelTree}
+use Rattle.pz_rules.specs.pz_value.declared.value.ClassId.{ClassId}
+use Rattle.pz_rules.specs.pz_value.declared.value.Value.{Value}
+use Rattle.pz_rules.specs.pz_classes_code.declared.slot.Slot.{Slot}
+use Rattle.pz_rules.specs.pz_classes_rules.FitBodies.{how_many}
+use Rattle.pz_rules.specs.pz_state.States.{StateView}
+use Rattle.pz_rules.specs.pz_copy.Parcels.{ParcelView}
+use Rattle.pz_rules.specs.pz_offer.declared.trouble.Trouble.{Trouble}
 use Rattle.pz_rules.specs.Terms.{Step, Steps, Term, leaf, Terms}
 use Rattle.pz_rules.specs.Framing.{framed}
 use Rattle.pz_rules.specs.FrameNumbers.{least_free}

@@ -4,9 +4,9 @@ use Rattle.std.specs.Prelude.{slice_get}
 use Rattle.std.proofs.lemmas.Bool.{cases_lt}
 use Rattle.std.proofs.lemmas.Option.{same_Some}
 use Rattle.std.proofs.lemmas.List.{length-append}
-use Rattle.pz_syntax.specs.Classes.{ModelTree}
+use Rattle.pz_rules.specs.pz_syntax.Classes.{ModelTree}
 use Rattle.pz_bind_levels.specs.Places.{Address}
-use Rattle.pz_bind.specs.Nest.{class_at}
+use Rattle.pz_rules.specs.pz_bind_rules.Nest.{class_at}
 use Rattle.pz_rules.specs.Terms.{Term}
 use Rattle.pz_rules.specs.Settings.{Setting, Process, left_by, Context}
 use Rattle.pz_rules.specs.Delays.{Passes}

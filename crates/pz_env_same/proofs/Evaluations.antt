@@ -2,28 +2,28 @@
 use Rattle.std.proofs.Common.{◌≡◌, ℕ, List, length, Option, if◌then◌else◌, refl, sym, subst, ap, ◌∙◌}
 use Rattle.std.specs.Prelude.{nat_lt}
 use Rattle.std.specs.Option.{option_and_then}
-use Rattle.pz_syntax.specs.declared.tokens.Pos.{Pos}
-use Rattle.pz_syntax.specs.declared.names.Id.{Id}
-use Rattle.pz_syntax.specs.Expressions.{Links, Sendings, creation}
-use Rattle.pz_syntax.specs.Classes.{ModelTree}
-use Rattle.pz_value.specs.declared.value.ClassId.{ClassId}
-use Rattle.pz_value.specs.declared.value.Value.{Value}
-use Rattle.pz_value.specs.declared.value.Value.TheVariants.{Nil, Bool as Boolean, Int, Char, Str, Ref}
-use Rattle.pz_classes.specs.Bodies.{BodyTree}
-use Rattle.pz_classes_code.specs.declared.slot.Slot.{Slot}
-use Rattle.pz_classes_code.specs.CodeView.{Tree}
-use Rattle.pz_state.specs.declared.fault.FaultKind.TheVariants.{StoreFull}
-use Rattle.pz_state.specs.States.{StateView, object, made, object_limit}
+use Rattle.pz_rules.specs.pz_syntax.declared.tokens.Pos.{Pos}
+use Rattle.pz_rules.specs.pz_syntax.declared.names.Id.{Id}
+use Rattle.pz_rules.specs.pz_syntax.Expressions.{Links, Sendings, creation}
+use Rattle.pz_rules.specs.pz_syntax.Classes.{ModelTree}
+use Rattle.pz_rules.specs.pz_value.declared.value.ClassId.{ClassId}
+use Rattle.pz_rules.specs.pz_value.declared.value.Value.{Value}
+use Rattle.pz_rules.specs.pz_value.declared.value.Value.TheVariants.{Nil, Bool as Boolean, Int, Char, Str, Ref}
+use Rattle.pz_rules.specs.pz_classes_rules.Bodies.{BodyTree}
+use Rattle.pz_rules.specs.pz_classes_code.declared.slot.Slot.{Slot}
+use Rattle.pz_rules.specs.pz_classes_code.CodeView.{Tree}
+use Rattle.pz_rules.specs.pz_state.declared.fault.FaultKind.TheVariants.{StoreFull}
+use Rattle.pz_rules.specs.pz_state.States.{StateView, object, made, object_limit}
 use Rattle.pz_prims.specs.declared.answer.Prim.{Prim}
 use Rattle.pz_prims.specs.Table.{outcome}
-use Rattle.pz_eval_rules.specs.declared.allowance.Allowance.{Allowance}
-use Rattle.pz_eval_rules.specs.declared.outcome.Outcome.{Outcome}
-use Rattle.pz_eval_rules.specs.declared.outcome.Listed.{Listed}
-use Rattle.pz_eval_rules.specs.Memories.{Memory, Location, with_state}
-use Rattle.pz_eval_rules.specs.Answers.{Answer, gives, stops, fault}
-use Rattle.pz_eval_rules.specs.Steps.{Codes, created, data_part, method_reply, class_reply, reply_by, reply}
-use Rattle.pz_eval_rules.specs.Evaluation.{Evaluates, a_constant, a_variable, itself, the_time, a_new, in_brackets, a_chain, a_chain_stops, some_sends, some_sends_stop, a_unary, a_unary_stops, an_assignment, an_assignment_stops, a_return, a_return_stops, an_if, an_if_wrong, an_if_stops, a_while, InSequence, no_more, one_more, one_stops, Arguments, no_argument, an_argument, an_argument_stops, Operators, no_operator, an_operator, an_operator_wrong, an_operand_stops, Selectors, no_selector, an_answer, an_answer_wrong, a_method, a_method_wrong, arguments_stop, Turns, a_turn, a_turn_stops, over, a_test_wrong, a_test_stops}
-use Rattle.pz_eval_rules.specs.Outcomes.{Within, ComesTo, AllComeTo, Finds, a_value, a_fault, too_much, FindsAll, all_values, one_fault, all_too_much}
+use Rattle.pz_rules.specs.pz_eval_rules.declared.allowance.Allowance.{Allowance}
+use Rattle.pz_rules.specs.pz_eval_rules.declared.outcome.Outcome.{Outcome}
+use Rattle.pz_rules.specs.pz_eval_rules.declared.outcome.Listed.{Listed}
+use Rattle.pz_rules.specs.pz_eval_rules.Memories.{Memory, Location, with_state}
+use Rattle.pz_rules.specs.pz_eval_rules.Answers.{Answer, gives, stops, fault}
+use Rattle.pz_rules.specs.pz_eval_rules.Steps.{Codes, created, data_part, method_reply, class_reply, reply_by, reply}
+use Rattle.pz_rules.specs.pz_eval_rules.Evaluation.{Evaluates, a_constant, a_variable, itself, the_time, a_new, in_brackets, a_chain, a_chain_stops, some_sends, some_sends_stop, a_unary, a_unary_stops, an_assignment, an_assignment_stops, a_return, a_return_stops, an_if, an_if_wrong, an_if_stops, a_while, InSequence, no_more, one_more, one_stops, Arguments, no_argument, an_argument, an_argument_stops, Operators, no_operator, an_operator, an_operator_wrong, an_operand_stops, Selectors, no_selector, an_answer, an_answer_wrong, a_method, a_method_wrong, arguments_stop, Turns, a_turn, a_turn_stops, over, a_test_wrong, a_test_stops}
+use Rattle.pz_rules.specs.pz_eval_rules.Outcomes.{Within, ComesTo, AllComeTo, Finds, a_value, a_fault, too_much, FindsAll, all_values, one_fault, all_too_much}
 use Rattle.pz_env_same.specs.SameRules.{SameData}
 
 module _ (m n : ModelTree) (same : SameData m n) where

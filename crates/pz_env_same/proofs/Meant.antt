@@ -4,16 +4,16 @@ use Rattle.std.specs.Option.{option_map, option_map_or, option_or, unwrap_or}
 use Rattle.std.specs.List.{sum_by, flat_map}
 use Rattle.std.proofs.lemmas.List.{length-map}
 use Rattle.std.proofs.lemmas.List.Sums.{sum_by-cons}
-use Rattle.pz_syntax.specs.declared.names.Id.{Id}
-use Rattle.pz_syntax.specs.Statements.{no_statements}
-use Rattle.pz_syntax.specs.Classes.{DeclTree, data_class, process_class, cluster_class, system, DataMethodTree, ProcessMethodTree, ModelTree}
-use Rattle.pz_classes_code.specs.Resolution.{Scope, resolved_statements}
-use Rattle.pz_classes.specs.declared.method_id.Counts.TheVariants.{Process}
-use Rattle.pz_classes.specs.declared.method_id.MethodId.{MethodId}
-use Rattle.pz_classes.specs.Ancestors.{ancestors}
-use Rattle.pz_classes.specs.Methods.{Signature, signatures, data_signature, process_signature, same_signature, methods_before, first_with, method_id, own_method, nearest}
-use Rattle.pz_classes.specs.Bodies.{BodyTree, process_body, data_scope, process_scope, data_body_in, process_body_in, process_locals}
-use Rattle.pz_classes.specs.MethodBodies.{data_method_in, process_method_in, first_body, own_body, process_method_body}
+use Rattle.pz_rules.specs.pz_syntax.declared.names.Id.{Id}
+use Rattle.pz_rules.specs.pz_syntax.Statements.{no_statements}
+use Rattle.pz_rules.specs.pz_syntax.Classes.{DeclTree, data_class, process_class, cluster_class, system, DataMethodTree, ProcessMethodTree, ModelTree}
+use Rattle.pz_rules.specs.pz_classes_code.Resolution.{Scope, resolved_statements}
+use Rattle.pz_rules.specs.pz_classes_rules.declared.method_id.Counts.TheVariants.{Process}
+use Rattle.pz_rules.specs.pz_classes_rules.declared.method_id.MethodId.{MethodId}
+use Rattle.pz_rules.specs.pz_classes_rules.Ancestors.{ancestors}
+use Rattle.pz_rules.specs.pz_classes_rules.Methods.{Signature, signatures, data_signature, process_signature, same_signature, methods_before, first_with, method_id, own_method, nearest}
+use Rattle.pz_rules.specs.pz_classes_rules.Bodies.{BodyTree, process_body, data_scope, process_scope, data_body_in, process_body_in, process_locals}
+use Rattle.pz_rules.specs.pz_classes_rules.MethodBodies.{data_method_in, process_method_in, first_body, own_body, process_method_body}
 use Rattle.pz_classes_beginnings.specs.Beginning.{begun_all}
 use Rattle.pz_classes_openings.specs.Methods.{declared_methods, methods}
 use Rattle.pz_classes_openings.specs.Openings.{begun_at, called}

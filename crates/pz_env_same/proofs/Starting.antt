@@ -4,13 +4,13 @@ use Rattle.std.specs.Prelude.{slice_get}
 use Rattle.std.proofs.lemmas.Bool.{cases_lt}
 use Rattle.std.proofs.lemmas.Option.{slice_get_within}
 use Rattle.std.proofs.lemmas.List.{length-append}
-use Rattle.pz_syntax.specs.Classes.{ModelTree}
-use Rattle.pz_value.specs.declared.value.Value.{Value}
-use Rattle.pz_classes.specs.Starts.{init}
+use Rattle.pz_rules.specs.pz_syntax.Classes.{ModelTree}
+use Rattle.pz_rules.specs.pz_value.declared.value.Value.{Value}
+use Rattle.pz_rules.specs.pz_classes_rules.Starts.{init}
 use Rattle.pz_bind_levels.specs.Places.{Address}
-use Rattle.pz_bind.specs.Nest.{processes, class_at}
-use Rattle.pz_bind.specs.Values.{values_at}
-use Rattle.pz_state.specs.States.{initial}
+use Rattle.pz_rules.specs.pz_bind_rules.Nest.{processes, class_at}
+use Rattle.pz_rules.specs.pz_bind_rules.Values.{values_at}
+use Rattle.pz_rules.specs.pz_state.States.{initial}
 use Rattle.pz_rules.specs.Terms.{Step}
 use Rattle.pz_rules.specs.Settings.{Setting, Process}
 use Rattle.pz_rules.specs.Opening.{opened}

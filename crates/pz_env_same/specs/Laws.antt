@@ -1,23 +1,23 @@
 -- Laws of one process: where it sees the same in another model, all that the rules say of it and of its parts
 -- is so in both. The model is that of its setting; both directions are said, so either may be meant.
 use Rattle.std.specs.Prelude.{◌≡◌, ◌≤◌, ◌↔◌, ℕ, Bool, List, Result}
-use Rattle.pz_syntax.specs.declared.tokens.Pos.{Pos}
-use Rattle.pz_syntax.specs.Expressions.{Part}
-use Rattle.pz_syntax.specs.Classes.{ModelTree}
-use Rattle.pz_value.specs.declared.value.ClassId.{ClassId}
-use Rattle.pz_value.specs.declared.value.Value.{Value}
-use Rattle.pz_classes_code.specs.declared.slot.Slot.{Slot}
-use Rattle.pz_classes_code.specs.CodeView.{Tree}
-use Rattle.pz_classes.specs.MethodBodies.{process_method_body}
-use Rattle.pz_state.specs.States.{StateView}
-use Rattle.pz_copy.specs.Parcels.{ParcelView}
-use Rattle.pz_offer.specs.PlaceOrder.{Place}
-use Rattle.pz_offer.specs.declared.trouble.Trouble.{Trouble}
-use Rattle.pz_eval_rules.specs.declared.allowance.Allowance.{Allowance}
-use Rattle.pz_eval_rules.specs.declared.outcome.Outcome.{Outcome}
-use Rattle.pz_eval_rules.specs.declared.outcome.Listed.{Listed}
-use Rattle.pz_eval_rules.specs.Steps.{Codes}
-use Rattle.pz_eval_rules.specs.Outcomes.{Finds, FindsAll}
+use Rattle.pz_rules.specs.pz_syntax.declared.tokens.Pos.{Pos}
+use Rattle.pz_rules.specs.pz_syntax.Expressions.{Part}
+use Rattle.pz_rules.specs.pz_syntax.Classes.{ModelTree}
+use Rattle.pz_rules.specs.pz_value.declared.value.ClassId.{ClassId}
+use Rattle.pz_rules.specs.pz_value.declared.value.Value.{Value}
+use Rattle.pz_rules.specs.pz_classes_code.declared.slot.Slot.{Slot}
+use Rattle.pz_rules.specs.pz_classes_code.CodeView.{Tree}
+use Rattle.pz_rules.specs.pz_classes_rules.MethodBodies.{process_method_body}
+use Rattle.pz_rules.specs.pz_state.States.{StateView}
+use Rattle.pz_rules.specs.pz_copy.Parcels.{ParcelView}
+use Rattle.pz_rules.specs.pz_offer.PlaceOrder.{Place}
+use Rattle.pz_rules.specs.pz_offer.declared.trouble.Trouble.{Trouble}
+use Rattle.pz_rules.specs.pz_eval_rules.declared.allowance.Allowance.{Allowance}
+use Rattle.pz_rules.specs.pz_eval_rules.declared.outcome.Outcome.{Outcome}
+use Rattle.pz_rules.specs.pz_eval_rules.declared.outcome.Listed.{Listed}
+use Rattle.pz_rules.specs.pz_eval_rules.Steps.{Codes}
+use Rattle.pz_rules.specs.pz_eval_rules.Outcomes.{Finds, FindsAll}
 use Rattle.pz_rules.specs.declared.action.Kind.{Kind}
 use Rattle.pz_rules.specs.declared.limits.Edition.{Edition}
 use Rattle.pz_rules.specs.Terms.{Code, Step, Steps, Term}

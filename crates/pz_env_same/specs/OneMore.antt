@@ -1,8 +1,8 @@
 -- Configurations of which one has one process more.
 use Rattle.std.specs.Prelude.{◌≡◌, ◌<◌, ℕ, [], ◌∷◌, ◌++◌, length, Result, Ok}
-use Rattle.pz_syntax.specs.Classes.{ModelTree}
-use Rattle.pz_bind.specs.Nest.{processes}
-use Rattle.pz_offer.specs.declared.trouble.Trouble.{Trouble}
+use Rattle.pz_rules.specs.pz_syntax.Classes.{ModelTree}
+use Rattle.pz_rules.specs.pz_bind_rules.Nest.{processes}
+use Rattle.pz_rules.specs.pz_offer.declared.trouble.Trouble.{Trouble}
 use Rattle.pz_rules.specs.declared.action.Action.{Action}
 use Rattle.pz_rules.specs.declared.action.Action.TheVariants.{Internal, Comm}
 use Rattle.pz_rules.specs.Meanings.{and_then}

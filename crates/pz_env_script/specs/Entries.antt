@@ -2,7 +2,7 @@
 use Rattle.std.specs.Prelude.{◌≡◌, ◌≤◌, ◌<◌, ◌^◌, ℕ, pos, true, List, [], ◌∷◌, length, codes}
 use Rattle.std.specs.List.{join_with_byte}
 use Rattle.std.specs.Fmt.{decimal}
-use Rattle.pz_items.specs.Characters.{byte}
+use Rattle.pz_syntax.specs.pz_items.Characters.{byte}
 use Rattle.pz_lines.specs.Identifiers.{is_identifier}
 use Rattle.pz_value.specs.declared.value.Value.{Value}
 use Rattle.pz_env_script.specs.declared.entry.Entry.{Entry}

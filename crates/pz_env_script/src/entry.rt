@@ -1,7 +1,7 @@
 // One line of a script.
 
-use pz_items::Items;
 use pz_syntax::Name;
+use pz_syntax::pz_items::Items;
 use pz_value::Value;
 
 /// What the environment does once: it waits, and then it offers one communication, without a condition

@@ -8,9 +8,9 @@ ghost use Rattle.pz_env_script.specs.devices.Reading.{entry_of, entry_in, are_na
 use crate::errors::ReadEntryError;
 use crate::literals::{literal, number_up_to, wait_in};
 use crate::{Entry, Transfer};
-use pz_items::Items;
 use pz_lines::{is_identifier, split};
 use pz_syntax::Name;
+use pz_syntax::pz_items::Items;
 use pz_value::Value;
 use std::alloc::{AllocError, Global};
 

@@ -11,8 +11,8 @@ ghost use Rattle.pz_env_script.specs.devices.Taking.{IsTaken, AreTaken};
 use crate::errors::ReadEntryError;
 use crate::reading::read_entry;
 use crate::{Entry, ReadScriptError};
-use pz_items::Items;
 use pz_lines::{Words, split};
+use pz_syntax::pz_items::Items;
 use std::alloc::Global;
 use std::marker::Model;
 

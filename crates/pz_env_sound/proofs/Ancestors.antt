@@ -2,13 +2,13 @@
 use Rattle.std.proofs.Common.{◌≡◌, ◌≢◌, refl, ap, ◌∙◌, ℕ, zero, suc, [], ◌∷◌, length, Option, Some, None, arith}
 use Rattle.std.specs.List.{AllByRecursion}
 use Rattle.std.specs.Option.{option_map, option_map_or, option_and_then}
-use Rattle.pz_syntax.specs.declared.names.Id.{Id}
-use Rattle.pz_syntax.specs.declared.clusters.SystemDecl.{SystemDecl}
-use Rattle.pz_syntax.specs.Classes.{DeclTree, ProcessClassTree, ModelTree}
-use Rattle.pz_classes.specs.Numbers.{declaration}
-use Rattle.pz_classes.specs.Ancestors.{extended, parent_named, parent_of, parent, followed, ancestors}
-use Rattle.pz_classes.specs.Reached.{AncestorsAreReached}
-use Rattle.pz_classes.specs.Soundness.{IsSound}
+use Rattle.pz_env_tree.specs.pz_syntax.declared.names.Id.{Id}
+use Rattle.pz_env_tree.specs.pz_syntax.declared.clusters.SystemDecl.{SystemDecl}
+use Rattle.pz_env_tree.specs.pz_syntax.Classes.{DeclTree, ProcessClassTree, ModelTree}
+use Rattle.pz_env_tree.specs.pz_classes_rules.Numbers.{declaration}
+use Rattle.pz_env_tree.specs.pz_classes_rules.Ancestors.{extended, parent_named, parent_of, parent, followed, ancestors}
+use Rattle.pz_env_tree.specs.pz_classes_rules.Reached.{AncestorsAreReached}
+use Rattle.pz_env_tree.specs.pz_classes_rules.Soundness.{IsSound}
 use Rattle.pz_env_grown.proofs.WaysUp.{followed_same}
 use Rattle.pz_env_grown.proofs.Parents.{parent_within, no_further}
 use Rattle.pz_env_grown.proofs.Kept.{parent_of_same}

@@ -4,18 +4,18 @@ use Rattle.std.specs.List.{Contains}
 use Rattle.std.specs.Option.{option_map_or}
 use Rattle.std.proofs.lemmas.Bool.{both_ways, false_from_ne_true, and_cases, and_left, and_right, or_parts, or_from}
 use Rattle.std.proofs.lemmas.Bool.Decides.{nat_tests}
-use Rattle.pz_syntax.specs.declared.names.Id.{Id}
-use Rattle.pz_syntax.specs.declared.clusters.SystemDecl.{SystemDecl}
-use Rattle.pz_syntax.specs.Classes.{DeclTree, ProcessClassTree, data_class, process_class, cluster_class, system, ModelTree}
-use Rattle.pz_check_violations.specs.declared.violation.Violation.{Violation}
-use Rattle.pz_check_violations.specs.Order.{violation}
-use Rattle.pz_classes_code.specs.ReservedNames.{is_primitive, is_unsupported, is_object}
-use Rattle.pz_classes.specs.Numbers.{declared_name, class}
-use Rattle.pz_classes.specs.Kinds.{is_data, is_declared_as}
-use Rattle.pz_classes.specs.Ancestors.{extended, parent}
-use Rattle.pz_classes.specs.Reached.{AncestorsAreReached}
-use Rattle.pz_classes.specs.Violations.{is_again, breaks_c1, same_sort, is_of_sort, may_extend, breaks_c2, Violates, c1, c2, c3}
-use Rattle.pz_classes.specs.Soundness.{IsSound}
+use Rattle.pz_env_tree.specs.pz_syntax.declared.names.Id.{Id}
+use Rattle.pz_env_tree.specs.pz_syntax.declared.clusters.SystemDecl.{SystemDecl}
+use Rattle.pz_env_tree.specs.pz_syntax.Classes.{DeclTree, ProcessClassTree, data_class, process_class, cluster_class, system, ModelTree}
+use Rattle.pz_env_tree.specs.pz_check_violations.declared.violation.Violation.{Violation}
+use Rattle.pz_env_tree.specs.pz_check_violations.Order.{violation}
+use Rattle.pz_env_tree.specs.pz_classes_code.ReservedNames.{is_primitive, is_unsupported, is_object}
+use Rattle.pz_env_tree.specs.pz_classes_rules.Numbers.{declared_name, class}
+use Rattle.pz_env_tree.specs.pz_classes_rules.Kinds.{is_data, is_declared_as}
+use Rattle.pz_env_tree.specs.pz_classes_rules.Ancestors.{extended, parent}
+use Rattle.pz_env_tree.specs.pz_classes_rules.Reached.{AncestorsAreReached}
+use Rattle.pz_env_tree.specs.pz_classes_rules.Violations.{is_again, breaks_c1, same_sort, is_of_sort, may_extend, breaks_c2, Violates, c1, c2, c3}
+use Rattle.pz_env_tree.specs.pz_classes_rules.Soundness.{IsSound}
 use Rattle.pz_env_grown.proofs.Numbers.{none_some, some_same}
 use Rattle.pz_env_grown.proofs.Parents.{parent_within}
 use Rattle.pz_env_sound.proofs.Grown.{grown_decl, grown, IsDeclared, old, new, declared, declared_other, class_kept, class_new, sort_kept, data_same}

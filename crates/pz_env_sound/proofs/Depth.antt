@@ -3,12 +3,12 @@
 use Rattle.std.proofs.Common.{◌≡◌, refl, sym, ap, ap₂, ◌∙◌, ℕ, zero, suc, ◌+◌, ◌≤◌, List, [], ◌∷◌, length, Option, Some, None, arith}
 use Rattle.std.specs.List.{Contains}
 use Rattle.std.specs.Option.{option_map_or}
-use Rattle.pz_syntax.specs.declared.clusters.Instance.{Instance}
-use Rattle.pz_syntax.specs.Classes.{DeclTree, data_class, process_class, cluster_class, system, ModelTree}
-use Rattle.pz_classes.specs.Instances.{instances, channels, instance_class}
-use Rattle.pz_classes.specs.InstanceRules.{directly}
-use Rattle.pz_classes.specs.SizeRules.{Totals, nothing, plus, all_of, one_of, expanded}
-use Rattle.pz_classes.specs.SoundSystem.{SystemFits}
+use Rattle.pz_env_tree.specs.pz_syntax.declared.clusters.Instance.{Instance}
+use Rattle.pz_env_tree.specs.pz_syntax.Classes.{DeclTree, data_class, process_class, cluster_class, system, ModelTree}
+use Rattle.pz_env_tree.specs.pz_classes_rules.Instances.{instances, channels, instance_class}
+use Rattle.pz_env_tree.specs.pz_classes_rules.InstanceRules.{directly}
+use Rattle.pz_env_tree.specs.pz_classes_rules.SizeRules.{Totals, nothing, plus, all_of, one_of, expanded}
+use Rattle.pz_env_tree.specs.pz_classes_rules.SoundSystem.{SystemFits}
 use Rattle.pz_env_grown.proofs.Elements.{first_in, later_in}
 use Rattle.pz_env_grown.proofs.Paths.{IsPart, part_of, IsPath, short, further, no_path}
 

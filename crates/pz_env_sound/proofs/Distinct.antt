@@ -2,8 +2,8 @@
 use Rattle.std.proofs.Common.{◌≡◌, ◌≢◌, refl, sym, ap, subst, ◌∙◌, ℕ, zero, suc, ◌≤◌, Bool, true, false, not, List, [], ◌∷◌, ◌++◌, map, length, Some, IsTrue, if◌then◌else◌, slice_get, arith, ◌⊎◌, inl, inr, ⊎_elim}
 use Rattle.std.specs.List.{Contains, AllByRecursion, filter}
 use Rattle.std.proofs.lemmas.Bool.{both_ways}
-use Rattle.pz_syntax.specs.declared.tokens.Pos.{Pos}
-use Rattle.pz_classes.specs.RepeatRules.{Repeats}
+use Rattle.pz_env_tree.specs.pz_syntax.declared.tokens.Pos.{Pos}
+use Rattle.pz_env_tree.specs.pz_classes_rules.RepeatRules.{Repeats}
 use Rattle.pz_env_grown.proofs.Elements.{none_in, first_in, later_in, in_cases}
 use Rattle.pz_env_grown.proofs.Numbers.{none_some, some_same}
 

@@ -5,22 +5,22 @@ use Rattle.std.specs.Option.{option_map, option_map_or, unwrap_or}
 use Rattle.std.specs.Str.{bytes_eq}
 use Rattle.std.proofs.lemmas.Bool.{and_parts, both_ways, not_from_true, false_from_ne_true}
 use Rattle.std.proofs.lemmas.Option.{slice_get-map}
-use Rattle.pz_syntax.specs.declared.names.Id.{Id}
-use Rattle.pz_syntax.specs.declared.clusters.Instance.{Instance}
-use Rattle.pz_syntax.specs.declared.clusters.ChannelEnd.{ChannelEnd}
-use Rattle.pz_syntax.specs.declared.clusters.SystemDecl.{SystemDecl}
-use Rattle.pz_syntax.specs.Classes.{system, ModelTree}
-use Rattle.pz_classes.specs.Numbers.{declaration}
-use Rattle.pz_classes.specs.Members.{ports, spelled}
-use Rattle.pz_classes.specs.Words.{is_among}
-use Rattle.pz_classes.specs.Reached.{AncestorsAreReached}
-use Rattle.pz_classes.specs.Instances.{instances}
-use Rattle.pz_classes.specs.RepeatRules.{same_name}
-use Rattle.pz_classes.specs.ChannelRules.{instance_named, has_port, breaks_c16}
-use Rattle.pz_classes.specs.SoundSystem.{SoundSystemsFit, SystemFits, PartsFit}
-use Rattle.pz_classes.specs.Soundness.{IsSound}
-use Rattle.pz_bind.specs.Nest.{class_of}
-use Rattle.pz_env_script.specs.declared.entry.Entry.{Entry}
+use Rattle.pz_env_tree.specs.pz_syntax.declared.names.Id.{Id}
+use Rattle.pz_env_tree.specs.pz_syntax.declared.clusters.Instance.{Instance}
+use Rattle.pz_env_tree.specs.pz_syntax.declared.clusters.ChannelEnd.{ChannelEnd}
+use Rattle.pz_env_tree.specs.pz_syntax.declared.clusters.SystemDecl.{SystemDecl}
+use Rattle.pz_env_tree.specs.pz_syntax.Classes.{system, ModelTree}
+use Rattle.pz_env_tree.specs.pz_classes_rules.Numbers.{declaration}
+use Rattle.pz_env_tree.specs.pz_classes_rules.Members.{ports, spelled}
+use Rattle.pz_env_tree.specs.pz_classes_rules.Words.{is_among}
+use Rattle.pz_env_tree.specs.pz_classes_rules.Reached.{AncestorsAreReached}
+use Rattle.pz_env_tree.specs.pz_classes_rules.Instances.{instances}
+use Rattle.pz_env_tree.specs.pz_classes_rules.RepeatRules.{same_name}
+use Rattle.pz_env_tree.specs.pz_classes_rules.ChannelRules.{instance_named, has_port, breaks_c16}
+use Rattle.pz_env_tree.specs.pz_classes_rules.SoundSystem.{SoundSystemsFit, SystemFits, PartsFit}
+use Rattle.pz_env_tree.specs.pz_classes_rules.Soundness.{IsSound}
+use Rattle.pz_env_tree.specs.pz_bind_rules.Nest.{class_of}
+use Rattle.pz_env_tree.specs.pz_env_script.declared.entry.Entry.{Entry}
 use Rattle.pz_env_tree.specs.pz_env_rules.Environment.{Line, lines_of}
 use Rattle.pz_env_tree.specs.pz_env_rules.Ends.{first_mentions}
 use Rattle.pz_env_tree.specs.Names.{instance_name, port_of}

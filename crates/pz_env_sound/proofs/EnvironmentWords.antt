@@ -6,23 +6,23 @@ use Rattle.std.specs.Option.{is_none, unwrap_or}
 use Rattle.std.specs.Str.{bytes_eq}
 use Rattle.std.proofs.lemmas.Bool.{and_from, or_left, or_right, not_from_true}
 use Rattle.std.proofs.lemmas.Bool.Decides.{nat_tests}
-use Rattle.pz_syntax.specs.declared.names.Id.{Id}
-use Rattle.pz_syntax.specs.declared.clusters.SystemDecl.{SystemDecl}
-use Rattle.pz_syntax.specs.Classes.{StartTree, process_class, ModelTree}
+use Rattle.pz_env_tree.specs.pz_syntax.declared.names.Id.{Id}
+use Rattle.pz_env_tree.specs.pz_syntax.declared.clusters.SystemDecl.{SystemDecl}
+use Rattle.pz_env_tree.specs.pz_syntax.Classes.{StartTree, process_class, ModelTree}
 use Rattle.pz_classes_mentions.specs.declared.mention.Mention.{Mention}
 use Rattle.pz_classes_mentions.specs.declared.mention.Mention.TheVariants.{Declared, Typed, Variable, Called}
 use Rattle.pz_classes_mentions.specs.declared.local_scope.LocalScope.{LocalScope}
 use Rattle.pz_classes_mentions.specs.Declarations.{parts}
-use Rattle.pz_classes_code.specs.ReservedNames.{is_unsupported}
-use Rattle.pz_classes.specs.declared.method_id.MethodId.{MethodId}
-use Rattle.pz_classes.specs.declared.method_id.Counts.TheVariants.{Process}
-use Rattle.pz_classes.specs.Members.{ports}
-use Rattle.pz_classes.specs.Words.{is_among}
-use Rattle.pz_classes.specs.Reached.{AncestorsAreReached}
-use Rattle.pz_classes.specs.NameRules.{is_type, breaks_c5, breaks_c6}
-use Rattle.pz_classes.specs.CallRules.{breaks_c7, is_message, messages, breaks_c11}
-use Rattle.pz_classes.specs.Soundness.{IsSound}
-use Rattle.pz_env_script.specs.Entries.{count_in}
+use Rattle.pz_env_tree.specs.pz_classes_code.ReservedNames.{is_unsupported}
+use Rattle.pz_env_tree.specs.pz_classes_rules.declared.method_id.MethodId.{MethodId}
+use Rattle.pz_env_tree.specs.pz_classes_rules.declared.method_id.Counts.TheVariants.{Process}
+use Rattle.pz_env_tree.specs.pz_classes_rules.Members.{ports}
+use Rattle.pz_env_tree.specs.pz_classes_rules.Words.{is_among}
+use Rattle.pz_env_tree.specs.pz_classes_rules.Reached.{AncestorsAreReached}
+use Rattle.pz_env_tree.specs.pz_classes_rules.NameRules.{is_type, breaks_c5, breaks_c6}
+use Rattle.pz_env_tree.specs.pz_classes_rules.CallRules.{breaks_c7, is_message, messages, breaks_c11}
+use Rattle.pz_env_tree.specs.pz_classes_rules.Soundness.{IsSound}
+use Rattle.pz_env_tree.specs.pz_env_script.Entries.{count_in}
 use Rattle.pz_env_tree.specs.pz_env_rules.Environment.{Line}
 use Rattle.pz_env_tree.specs.pz_env_rules.Ends.{first_mentions, named_at}
 use Rattle.pz_env_tree.specs.Names.{class_name, method_name, variable_name, kind_name, port_of}

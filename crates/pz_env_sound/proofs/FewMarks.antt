@@ -2,18 +2,18 @@
 use Rattle.std.proofs.Common.{◌≡◌, ap, subst, ℕ, suc, ◌+◌, ◌*◌, ◌^◌, ◌≤◌, ◌<◌, List, [], ◌∷◌, ◌++◌, map, length, length-append, arith}
 use Rattle.std.specs.List.{Contains, flat_map}
 use Rattle.std.proofs.lemmas.List.{length-map}
-use Rattle.pz_syntax.specs.declared.tokens.Keyword.TheVariants as k
-use Rattle.pz_syntax.specs.declared.tokens.Mark.{Mark}
-use Rattle.pz_syntax.specs.declared.clusters.Channel.{Channel}
-use Rattle.pz_syntax.specs.declared.clusters.SystemDecl.{SystemDecl}
-use Rattle.pz_syntax.specs.Marks.{section, each_text}
-use Rattle.pz_syntax.specs.ClassText.{process_class_text}
-use Rattle.pz_syntax.specs.ModelText.{instance_text, channel_text, system_text, decl_text, text, HasFewMarks}
-use Rattle.pz_syntax.specs.Classes.{DeclTree, data_class, process_class, cluster_class, system, ModelTree}
-use Rattle.pz_classes.specs.SizeRules.{system_of, systems}
-use Rattle.pz_classes.specs.SoundSystem.{SystemFits}
-use Rattle.pz_env_script.specs.declared.entry.Entry.{Entry}
-use Rattle.pz_env_script.specs.Entries.{count_in}
+use Rattle.pz_env_tree.specs.pz_syntax.declared.tokens.Keyword.TheVariants as k
+use Rattle.pz_env_tree.specs.pz_syntax.declared.tokens.Mark.{Mark}
+use Rattle.pz_env_tree.specs.pz_syntax.declared.clusters.Channel.{Channel}
+use Rattle.pz_env_tree.specs.pz_syntax.declared.clusters.SystemDecl.{SystemDecl}
+use Rattle.pz_env_tree.specs.pz_syntax.Marks.{section, each_text}
+use Rattle.pz_env_tree.specs.pz_syntax.ClassText.{process_class_text}
+use Rattle.pz_env_tree.specs.pz_syntax.ModelText.{instance_text, channel_text, system_text, decl_text, text, HasFewMarks}
+use Rattle.pz_env_tree.specs.pz_syntax.Classes.{DeclTree, data_class, process_class, cluster_class, system, ModelTree}
+use Rattle.pz_env_tree.specs.pz_classes_rules.SizeRules.{system_of, systems}
+use Rattle.pz_env_tree.specs.pz_classes_rules.SoundSystem.{SystemFits}
+use Rattle.pz_env_tree.specs.pz_env_script.declared.entry.Entry.{Entry}
+use Rattle.pz_env_tree.specs.pz_env_script.Entries.{count_in}
 use Rattle.pz_env_tree.specs.pz_env_rules.Environment.{Line, lines_of}
 use Rattle.pz_env_tree.specs.pz_env_rules.Ends.{first_mentions}
 use Rattle.pz_env_tree.specs.EnvironmentClass.{environment_class}

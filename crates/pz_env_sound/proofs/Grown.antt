@@ -4,10 +4,10 @@ use Rattle.std.proofs.Common.{◌≡◌, ◌≢◌, refl, sym, ap, ◌∙◌, �
 use Rattle.std.specs.Option.{option_map, option_map_or, option_and_then}
 use Rattle.std.proofs.lemmas.Bool.{false≢true}
 use Rattle.std.proofs.lemmas.Slice.Eq.{bytes_eq-Decides}
-use Rattle.pz_syntax.specs.declared.clusters.SystemDecl.{SystemDecl}
-use Rattle.pz_syntax.specs.Classes.{DeclTree, ProcessClassTree, data_class, process_class, cluster_class, system, ModelTree}
-use Rattle.pz_classes.specs.Numbers.{declaration, class}
-use Rattle.pz_classes.specs.Kinds.{is_data, is_process, is_cluster, is_declared_as}
+use Rattle.pz_env_tree.specs.pz_syntax.declared.clusters.SystemDecl.{SystemDecl}
+use Rattle.pz_env_tree.specs.pz_syntax.Classes.{DeclTree, ProcessClassTree, data_class, process_class, cluster_class, system, ModelTree}
+use Rattle.pz_env_tree.specs.pz_classes_rules.Numbers.{declaration, class}
+use Rattle.pz_env_tree.specs.pz_classes_rules.Kinds.{is_data, is_process, is_cluster, is_declared_as}
 use Rattle.pz_env_grown.specs.Growth.{Alike}
 use Rattle.pz_env_grown.proofs.Numbers.{none_some, some_same, declared_within}
 use Rattle.pz_env_grown.proofs.Alike.{of_alike}

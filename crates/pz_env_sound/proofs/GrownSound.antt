@@ -1,24 +1,24 @@
 -- A sound model stays sound where it grows, if what is new is as it should be.
 use Rattle.std.proofs.Common.{◌≡◌, ℕ, suc, ◌+◌, ◌<◌, ◌≤◌, false, List, map, length, Some, IsTrue}
 use Rattle.std.specs.List.{Contains}
-use Rattle.pz_syntax.specs.declared.names.Id.{Id}
-use Rattle.pz_syntax.specs.declared.clusters.Instance.{Instance}
-use Rattle.pz_syntax.specs.declared.clusters.Channel.{Channel}
-use Rattle.pz_syntax.specs.declared.clusters.ChannelEnd.{ChannelEnd}
-use Rattle.pz_syntax.specs.declared.clusters.SystemDecl.{SystemDecl}
-use Rattle.pz_syntax.specs.Classes.{ProcessClassTree, process_class, system, ModelTree}
+use Rattle.pz_env_tree.specs.pz_syntax.declared.names.Id.{Id}
+use Rattle.pz_env_tree.specs.pz_syntax.declared.clusters.Instance.{Instance}
+use Rattle.pz_env_tree.specs.pz_syntax.declared.clusters.Channel.{Channel}
+use Rattle.pz_env_tree.specs.pz_syntax.declared.clusters.ChannelEnd.{ChannelEnd}
+use Rattle.pz_env_tree.specs.pz_syntax.declared.clusters.SystemDecl.{SystemDecl}
+use Rattle.pz_env_tree.specs.pz_syntax.Classes.{ProcessClassTree, process_class, system, ModelTree}
 use Rattle.pz_classes_mentions.specs.declared.mention.Mention.{Mention}
 use Rattle.pz_classes_mentions.specs.declared.local_scope.LocalScope.{LocalScope}
 use Rattle.pz_classes_mentions.specs.Declarations.{parts}
-use Rattle.pz_check_violations.specs.declared.violation.Violation.{Violation}
-use Rattle.pz_classes.specs.Numbers.{declaration}
-use Rattle.pz_classes.specs.Instances.{instances}
-use Rattle.pz_classes.specs.RepeatRules.{same_name}
-use Rattle.pz_classes.specs.ChannelRules.{breaks_c16}
-use Rattle.pz_classes.specs.SizeRules.{systems, system_size}
-use Rattle.pz_classes.specs.Reached.{AncestorsAreReached}
-use Rattle.pz_classes.specs.SoundSystem.{SoundSystemsFit}
-use Rattle.pz_classes.specs.Soundness.{Breaks, a_word, a_repeat, given, holding, an_end, two_ends, size, the_system, IsSound}
+use Rattle.pz_env_tree.specs.pz_check_violations.declared.violation.Violation.{Violation}
+use Rattle.pz_env_tree.specs.pz_classes_rules.Numbers.{declaration}
+use Rattle.pz_env_tree.specs.pz_classes_rules.Instances.{instances}
+use Rattle.pz_env_tree.specs.pz_classes_rules.RepeatRules.{same_name}
+use Rattle.pz_env_tree.specs.pz_classes_rules.ChannelRules.{breaks_c16}
+use Rattle.pz_env_tree.specs.pz_classes_rules.SizeRules.{systems, system_size}
+use Rattle.pz_env_tree.specs.pz_classes_rules.Reached.{AncestorsAreReached}
+use Rattle.pz_env_tree.specs.pz_classes_rules.SoundSystem.{SoundSystemsFit}
+use Rattle.pz_env_tree.specs.pz_classes_rules.Soundness.{Breaks, a_word, a_repeat, given, holding, an_end, two_ends, size, the_system, IsSound}
 use Rattle.pz_env_sound.proofs.Grown.{grown}
 use Rattle.pz_env_sound.proofs.NewParts.{IsFresh, Gains}
 use Rattle.pz_env_sound.proofs.ClassRules.{no_class}

@@ -4,23 +4,23 @@ use Rattle.std.specs.List.{Contains}
 use Rattle.std.specs.Option.{unwrap_or}
 use Rattle.std.proofs.lemmas.Bool.{both_ways, false≢true}
 use Rattle.std.proofs.lemmas.List.Elements.{Contains-append_cases}
-use Rattle.pz_syntax.specs.declared.names.Id.{Id}
-use Rattle.pz_syntax.specs.declared.clusters.Given.{Given}
-use Rattle.pz_syntax.specs.declared.clusters.Instance.{Instance}
-use Rattle.pz_syntax.specs.declared.clusters.SystemDecl.{SystemDecl}
-use Rattle.pz_syntax.specs.Classes.{DeclTree, ProcessClassTree, data_class, process_class, cluster_class, system, ModelTree}
-use Rattle.pz_check_violations.specs.declared.violation.Violation.{Violation}
-use Rattle.pz_check_violations.specs.Order.{violation}
-use Rattle.pz_classes_code.specs.ReservedNames.{is_unsupported}
-use Rattle.pz_classes.specs.Numbers.{declaration, class}
-use Rattle.pz_classes.specs.Kinds.{is_cluster}
-use Rattle.pz_classes.specs.Members.{spelled, section}
-use Rattle.pz_classes.specs.NameRules.{has_instances}
-use Rattle.pz_classes.specs.Reached.{AncestorsAreReached}
-use Rattle.pz_classes.specs.Instances.{instances, instance_class, parameters}
-use Rattle.pz_classes.specs.InstanceRules.{given_names, gives_each, BreaksC14, ill_given, Holds, directly, through, BreaksC15, holds_itself}
-use Rattle.pz_classes.specs.SoundSystem.{SoundSystemsFit, InstanceFits}
-use Rattle.pz_classes.specs.Soundness.{IsSound, given, holding}
+use Rattle.pz_env_tree.specs.pz_syntax.declared.names.Id.{Id}
+use Rattle.pz_env_tree.specs.pz_syntax.declared.clusters.Given.{Given}
+use Rattle.pz_env_tree.specs.pz_syntax.declared.clusters.Instance.{Instance}
+use Rattle.pz_env_tree.specs.pz_syntax.declared.clusters.SystemDecl.{SystemDecl}
+use Rattle.pz_env_tree.specs.pz_syntax.Classes.{DeclTree, ProcessClassTree, data_class, process_class, cluster_class, system, ModelTree}
+use Rattle.pz_env_tree.specs.pz_check_violations.declared.violation.Violation.{Violation}
+use Rattle.pz_env_tree.specs.pz_check_violations.Order.{violation}
+use Rattle.pz_env_tree.specs.pz_classes_code.ReservedNames.{is_unsupported}
+use Rattle.pz_env_tree.specs.pz_classes_rules.Numbers.{declaration, class}
+use Rattle.pz_env_tree.specs.pz_classes_rules.Kinds.{is_cluster}
+use Rattle.pz_env_tree.specs.pz_classes_rules.Members.{spelled, section}
+use Rattle.pz_env_tree.specs.pz_classes_rules.NameRules.{has_instances}
+use Rattle.pz_env_tree.specs.pz_classes_rules.Reached.{AncestorsAreReached}
+use Rattle.pz_env_tree.specs.pz_classes_rules.Instances.{instances, instance_class, parameters}
+use Rattle.pz_env_tree.specs.pz_classes_rules.InstanceRules.{given_names, gives_each, BreaksC14, ill_given, Holds, directly, through, BreaksC15, holds_itself}
+use Rattle.pz_env_tree.specs.pz_classes_rules.SoundSystem.{SoundSystemsFit, InstanceFits}
+use Rattle.pz_env_tree.specs.pz_classes_rules.Soundness.{IsSound, given, holding}
 use Rattle.pz_env_grown.proofs.Elements.{none_in, in_cases}
 use Rattle.pz_env_grown.proofs.Numbers.{some_same, class_within}
 use Rattle.pz_env_grown.proofs.Paths.{class_named}

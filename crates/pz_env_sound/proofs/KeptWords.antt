@@ -3,22 +3,22 @@ use Rattle.std.proofs.Common.{◌≡◌, ◌≢◌, refl, ap, ◌∙◌, ℕ, su
 use Rattle.std.specs.Option.{is_none}
 use Rattle.std.specs.List.{list_any, AllByRecursion}
 use Rattle.std.proofs.lemmas.Bool.{false≢true}
-use Rattle.pz_syntax.specs.declared.names.Id.{Id}
-use Rattle.pz_syntax.specs.declared.classes.Message.{Message}
-use Rattle.pz_syntax.specs.declared.clusters.SystemDecl.{SystemDecl}
-use Rattle.pz_syntax.specs.Classes.{DeclTree, StartTree, ProcessClassTree, data_class, process_class, cluster_class, system, ModelTree}
+use Rattle.pz_env_tree.specs.pz_syntax.declared.names.Id.{Id}
+use Rattle.pz_env_tree.specs.pz_syntax.declared.classes.Message.{Message}
+use Rattle.pz_env_tree.specs.pz_syntax.declared.clusters.SystemDecl.{SystemDecl}
+use Rattle.pz_env_tree.specs.pz_syntax.Classes.{DeclTree, StartTree, ProcessClassTree, data_class, process_class, cluster_class, system, ModelTree}
 use Rattle.pz_classes_mentions.specs.declared.mention.Mention.{Mention}
 use Rattle.pz_classes_mentions.specs.declared.mention.Mention.TheVariants.{Declared, Typed, Variable, Created, Selector, Called, Port, Sent, Received, Instantiated, Clock, Me, Return}
-use Rattle.pz_classes_code.specs.ReservedNames.{is_primitive, is_unsupported, is_array}
-use Rattle.pz_classes.specs.declared.method_id.MethodId.{MethodId}
-use Rattle.pz_classes.specs.declared.method_id.Counts.TheVariants.{Data, Process}
-use Rattle.pz_classes.specs.Kinds.{is_data, is_process, is_cluster, is_declared_as}
-use Rattle.pz_classes.specs.Methods.{Signature, same_signature, signatures}
-use Rattle.pz_classes.specs.Reached.{AncestorsAreReached}
-use Rattle.pz_classes.specs.NameRules.{is_type, breaks_c5, shared, breaks_c6, may_create, breaks_c12, has_instances, breaks_c13, breaks_c18, breaks_c21, breaks_c22}
-use Rattle.pz_classes.specs.CallRules.{is_primitive_selector, is_declared, breaks_c7, breaks_c8, breaks_c9, is_message, breaks_c10, start, breaks_c11}
-use Rattle.pz_classes.specs.Words.{is_among}
-use Rattle.pz_classes.specs.Soundness.{IsSound}
+use Rattle.pz_env_tree.specs.pz_classes_code.ReservedNames.{is_primitive, is_unsupported, is_array}
+use Rattle.pz_env_tree.specs.pz_classes_rules.declared.method_id.MethodId.{MethodId}
+use Rattle.pz_env_tree.specs.pz_classes_rules.declared.method_id.Counts.TheVariants.{Data, Process}
+use Rattle.pz_env_tree.specs.pz_classes_rules.Kinds.{is_data, is_process, is_cluster, is_declared_as}
+use Rattle.pz_env_tree.specs.pz_classes_rules.Methods.{Signature, same_signature, signatures}
+use Rattle.pz_env_tree.specs.pz_classes_rules.Reached.{AncestorsAreReached}
+use Rattle.pz_env_tree.specs.pz_classes_rules.NameRules.{is_type, breaks_c5, shared, breaks_c6, may_create, breaks_c12, has_instances, breaks_c13, breaks_c18, breaks_c21, breaks_c22}
+use Rattle.pz_env_tree.specs.pz_classes_rules.CallRules.{is_primitive_selector, is_declared, breaks_c7, breaks_c8, breaks_c9, is_message, breaks_c10, start, breaks_c11}
+use Rattle.pz_env_tree.specs.pz_classes_rules.Words.{is_among}
+use Rattle.pz_env_tree.specs.pz_classes_rules.Soundness.{IsSound}
 use Rattle.pz_env_sound.proofs.Grown.{grown_decl, grown, sort_kept, data_same, process_same, cluster_same}
 use Rattle.pz_env_sound.proofs.Members.{signatures_kept, fields_same, variables_same, ports_same, messages_same, start_same, method_same}
 use Rattle.pz_env_sound.proofs.Tests.{fewer, either}

@@ -3,10 +3,10 @@ use Rattle.std.proofs.Common.{◌≡◌, ◌≤◌, ℕ, List, [], ◌∷◌, le
 use Rattle.std.specs.List.{Contains}
 use Rattle.std.specs.Coded.{le_prop}
 use Rattle.std.proofs.Math.Logic.{∥∥₁_elim}
-use Rattle.pz_env_script.specs.declared.entry.Entry.{Entry}
-use Rattle.pz_env_script.specs.declared.entry.Transfer.{Transfer}
-use Rattle.pz_env_script.specs.Entries.{IsTransfer, sends, receives, count_in}
-use Rattle.pz_env_script.specs.Scripts.{AreEntries, IsWritten}
+use Rattle.pz_env_tree.specs.pz_env_script.declared.entry.Entry.{Entry}
+use Rattle.pz_env_tree.specs.pz_env_script.declared.entry.Transfer.{Transfer}
+use Rattle.pz_env_tree.specs.pz_env_script.Entries.{IsTransfer, sends, receives, count_in}
+use Rattle.pz_env_tree.specs.pz_env_script.Scripts.{AreEntries, IsWritten}
 use Rattle.pz_env_grown.proofs.Elements.{none_in, in_cases}
 
 few_values : (action : List ℕ) (rest : List (List ℕ)) (t : Transfer) → IsTransfer action rest t → count_in t ≤ 100

@@ -3,23 +3,23 @@ use Rattle.std.proofs.Common.{◌≡◌, subst, ℕ, suc, ◌+◌, ◌*◌, ◌�
 use Rattle.std.specs.List.{Contains}
 use Rattle.std.specs.Option.{unwrap_or}
 use Rattle.std.proofs.lemmas.List.{length-map, length-replicate}
-use Rattle.pz_syntax.specs.declared.tokens.Symbol.{Symbol}
-use Rattle.pz_syntax.specs.declared.tokens.Symbol.TheVariants as s
-use Rattle.pz_syntax.specs.declared.tokens.Keyword.{Keyword}
-use Rattle.pz_syntax.specs.declared.tokens.Mark.{Mark}
-use Rattle.pz_syntax.specs.declared.tokens.Pos.{Pos}
-use Rattle.pz_syntax.specs.declared.names.Id.{Id}
-use Rattle.pz_syntax.specs.declared.classes.Message.{Message}
-use Rattle.pz_syntax.specs.Marks.{symbol, section, separated, tail_separated, each_text, optional, word_text, names_text}
-use Rattle.pz_syntax.specs.ExpressionText as expression
-use Rattle.pz_syntax.specs.ExpressionText.{arguments_text}
-use Rattle.pz_syntax.specs.StatementText as statement
-use Rattle.pz_syntax.specs.StatementText.{reception_text}
-use Rattle.pz_syntax.specs.ClassText.{types_text, message_text, messages_text, process_class_text}
-use Rattle.pz_value.specs.declared.value.Value.{Value}
-use Rattle.pz_env_script.specs.declared.entry.Transfer.{Transfer}
-use Rattle.pz_env_script.specs.declared.entry.Transfer.TheVariants.{Send, Receive}
-use Rattle.pz_env_script.specs.Entries.{count_in}
+use Rattle.pz_env_tree.specs.pz_syntax.declared.tokens.Symbol.{Symbol}
+use Rattle.pz_env_tree.specs.pz_syntax.declared.tokens.Symbol.TheVariants as s
+use Rattle.pz_env_tree.specs.pz_syntax.declared.tokens.Keyword.{Keyword}
+use Rattle.pz_env_tree.specs.pz_syntax.declared.tokens.Mark.{Mark}
+use Rattle.pz_env_tree.specs.pz_syntax.declared.tokens.Pos.{Pos}
+use Rattle.pz_env_tree.specs.pz_syntax.declared.names.Id.{Id}
+use Rattle.pz_env_tree.specs.pz_syntax.declared.classes.Message.{Message}
+use Rattle.pz_env_tree.specs.pz_syntax.Marks.{symbol, section, separated, tail_separated, each_text, optional, word_text, names_text}
+use Rattle.pz_env_tree.specs.pz_syntax.ExpressionText as expression
+use Rattle.pz_env_tree.specs.pz_syntax.ExpressionText.{arguments_text}
+use Rattle.pz_env_tree.specs.pz_syntax.StatementText as statement
+use Rattle.pz_env_tree.specs.pz_syntax.StatementText.{reception_text}
+use Rattle.pz_env_tree.specs.pz_syntax.ClassText.{types_text, message_text, messages_text, process_class_text}
+use Rattle.pz_env_tree.specs.pz_value.declared.value.Value.{Value}
+use Rattle.pz_env_tree.specs.pz_env_script.declared.entry.Transfer.{Transfer}
+use Rattle.pz_env_tree.specs.pz_env_script.declared.entry.Transfer.TheVariants.{Send, Receive}
+use Rattle.pz_env_tree.specs.pz_env_script.Entries.{count_in}
 use Rattle.pz_env_tree.specs.pz_env_rules.Environment.{Line, at_line}
 use Rattle.pz_env_tree.specs.pz_env_rules.Ends.{first_mentions, named_at}
 use Rattle.pz_env_tree.specs.Names.{port_of, variable_name, kind_name}

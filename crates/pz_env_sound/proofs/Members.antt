@@ -4,19 +4,19 @@ use Rattle.std.specs.List.{AllByRecursion, flat_map, sum_by}
 use Rattle.std.specs.Option.{option_map, option_map_or, option_or, option_and_then}
 use Rattle.std.proofs.lemmas.List.{take-append-le, length-map}
 use Rattle.std.proofs.lemmas.List.Sums.{sum_by-cons}
-use Rattle.pz_syntax.specs.declared.names.Id.{Id}
-use Rattle.pz_syntax.specs.declared.classes.Message.{Message}
-use Rattle.pz_syntax.specs.declared.clusters.SystemDecl.{SystemDecl}
-use Rattle.pz_syntax.specs.Classes.{DeclTree, ProcessClassTree, process_class, ModelTree}
-use Rattle.pz_classes.specs.Numbers.{declaration}
-use Rattle.pz_classes.specs.Ancestors.{ancestors}
-use Rattle.pz_classes.specs.Reached.{AncestorsAreReached}
-use Rattle.pz_classes.specs.Members.{own_fields, own_variables, own_ports, from_root, fields, variables, ports}
-use Rattle.pz_classes.specs.Methods.{Signature, signatures, methods_before, first_with, method_id, own_method, nearest, method_with}
-use Rattle.pz_classes.specs.Starts.{own_start}
-use Rattle.pz_classes.specs.CallRules.{own_messages, messages, start}
-use Rattle.pz_classes.specs.Instances.{own_parameters, parameters}
-use Rattle.pz_classes.specs.Soundness.{IsSound}
+use Rattle.pz_env_tree.specs.pz_syntax.declared.names.Id.{Id}
+use Rattle.pz_env_tree.specs.pz_syntax.declared.classes.Message.{Message}
+use Rattle.pz_env_tree.specs.pz_syntax.declared.clusters.SystemDecl.{SystemDecl}
+use Rattle.pz_env_tree.specs.pz_syntax.Classes.{DeclTree, ProcessClassTree, process_class, ModelTree}
+use Rattle.pz_env_tree.specs.pz_classes_rules.Numbers.{declaration}
+use Rattle.pz_env_tree.specs.pz_classes_rules.Ancestors.{ancestors}
+use Rattle.pz_env_tree.specs.pz_classes_rules.Reached.{AncestorsAreReached}
+use Rattle.pz_env_tree.specs.pz_classes_rules.Members.{own_fields, own_variables, own_ports, from_root, fields, variables, ports}
+use Rattle.pz_env_tree.specs.pz_classes_rules.Methods.{Signature, signatures, methods_before, first_with, method_id, own_method, nearest, method_with}
+use Rattle.pz_env_tree.specs.pz_classes_rules.Starts.{own_start}
+use Rattle.pz_env_tree.specs.pz_classes_rules.CallRules.{own_messages, messages, start}
+use Rattle.pz_env_tree.specs.pz_classes_rules.Instances.{own_parameters, parameters}
+use Rattle.pz_env_tree.specs.pz_classes_rules.Soundness.{IsSound}
 use Rattle.pz_env_grown.proofs.Numbers.{declared_within}
 use Rattle.pz_env_sound.proofs.Grown.{grown_decl, of_grown, grown, declaration_new, declaration_other}
 use Rattle.pz_env_sound.proofs.Ancestors.{ancestors_same, ancestors_other, ancestors_new}

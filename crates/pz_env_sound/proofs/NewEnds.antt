@@ -5,14 +5,14 @@ use Rattle.std.specs.List.{Contains, find, flat_map, list_any}
 use Rattle.std.specs.Str.{bytes_eq}
 use Rattle.std.proofs.lemmas.Bool.{and_parts, both_ways, false≢true}
 use Rattle.std.proofs.lemmas.List.Elements.{Contains-append_cases}
-use Rattle.pz_syntax.specs.declared.clusters.Channel.{Channel}
-use Rattle.pz_syntax.specs.declared.clusters.ChannelEnd.{ChannelEnd}
-use Rattle.pz_syntax.specs.declared.clusters.ChannelEnd.TheVariants.{Inner, Outer}
+use Rattle.pz_env_tree.specs.pz_syntax.declared.clusters.Channel.{Channel}
+use Rattle.pz_env_tree.specs.pz_syntax.declared.clusters.ChannelEnd.{ChannelEnd}
+use Rattle.pz_env_tree.specs.pz_syntax.declared.clusters.ChannelEnd.TheVariants.{Inner, Outer}
 use Rattle.pz_env_tree.specs.pz_env_rules.Environment.{Line}
 use Rattle.pz_env_tree.specs.pz_env_rules.Ends.{first_mentions, named_at}
 use Rattle.pz_env_tree.specs.Names.{instance_name, port_of}
 use Rattle.pz_env_tree.specs.ClosedTree.{channel_of}
-use Rattle.pz_classes.specs.ChannelRules.{same_end}
+use Rattle.pz_env_tree.specs.pz_classes_rules.ChannelRules.{same_end}
 use Rattle.pz_env_grown.proofs.Elements.{none_in, first_in, later_in, in_cases}
 use Rattle.pz_env_grown.proofs.Numbers.{none_some, some_same}
 use Rattle.pz_env_sound.proofs.Distinct.{AreApart, NotLater}

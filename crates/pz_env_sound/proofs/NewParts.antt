@@ -1,11 +1,11 @@
 -- What is asked of the class and of the instance that are new.
 use Rattle.std.proofs.Common.{◌≡◌, false, None, [], ◌∷◌, ◌++◌}
 use Rattle.std.specs.Option.{unwrap_or}
-use Rattle.pz_syntax.specs.declared.clusters.Instance.{Instance}
-use Rattle.pz_syntax.specs.declared.clusters.SystemDecl.{SystemDecl}
-use Rattle.pz_syntax.specs.Classes.{ProcessClassTree, ModelTree}
-use Rattle.pz_classes_code.specs.ReservedNames.{is_primitive, is_unsupported}
-use Rattle.pz_classes.specs.Numbers.{class}
+use Rattle.pz_env_tree.specs.pz_syntax.declared.clusters.Instance.{Instance}
+use Rattle.pz_env_tree.specs.pz_syntax.declared.clusters.SystemDecl.{SystemDecl}
+use Rattle.pz_env_tree.specs.pz_syntax.Classes.{ProcessClassTree, ModelTree}
+use Rattle.pz_env_tree.specs.pz_classes_code.ReservedNames.{is_primitive, is_unsupported}
+use Rattle.pz_env_tree.specs.pz_classes_rules.Numbers.{class}
 
 -- no class of the model has its name; it extends none and has no parameters
 pub record IsFresh (m : ModelTree) (e : ProcessClassTree) : Type 0 where

@@ -6,7 +6,7 @@ use Rattle.std.proofs.lemmas.Bool.{and_parts, and_from, eqb-true, eq-eqb, both_w
 use Rattle.std.proofs.lemmas.Fmt.{decimal_injective}
 use Rattle.std.proofs.lemmas.Option.{slice_get_within}
 use Rattle.std.proofs.lemmas.Slice.Eq.{bytes_eq-Decides}
-use Rattle.pz_env_script.specs.Entries.{count_in}
+use Rattle.pz_env_tree.specs.pz_env_script.Entries.{count_in}
 use Rattle.pz_env_tree.specs.pz_env_rules.Environment.{Line}
 use Rattle.pz_env_tree.specs.pz_env_rules.Ends.{is_same_end, first_mentions}
 use Rattle.pz_env_tree.specs.Names.{end_number, port_name, port_of}

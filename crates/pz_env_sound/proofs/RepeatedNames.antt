@@ -3,22 +3,22 @@ use Rattle.std.proofs.Common.{◌≡◌, ◌≢◌, refl, sym, ap, subst, ◌∙
 use Rattle.std.specs.List.{Contains}
 use Rattle.std.proofs.lemmas.Bool.{cases_eq}
 use Rattle.std.proofs.lemmas.List.{map-append}
-use Rattle.pz_syntax.specs.declared.names.Id.{Id}
-use Rattle.pz_syntax.specs.declared.classes.Message.{Message}
-use Rattle.pz_syntax.specs.declared.clusters.Instance.{Instance}
-use Rattle.pz_syntax.specs.declared.clusters.SystemDecl.{SystemDecl}
-use Rattle.pz_syntax.specs.Classes.{DeclTree, ProcessClassTree, data_class, process_class, cluster_class, system, ModelTree}
+use Rattle.pz_env_tree.specs.pz_syntax.declared.names.Id.{Id}
+use Rattle.pz_env_tree.specs.pz_syntax.declared.classes.Message.{Message}
+use Rattle.pz_env_tree.specs.pz_syntax.declared.clusters.Instance.{Instance}
+use Rattle.pz_env_tree.specs.pz_syntax.declared.clusters.SystemDecl.{SystemDecl}
+use Rattle.pz_env_tree.specs.pz_syntax.Classes.{DeclTree, ProcessClassTree, data_class, process_class, cluster_class, system, ModelTree}
 use Rattle.pz_classes_mentions.specs.declared.local_scope.LocalScope.{LocalScope}
 use Rattle.pz_classes_mentions.specs.Declarations.{parts, system_part}
-use Rattle.pz_check_violations.specs.declared.violation.Violation.{Violation}
-use Rattle.pz_check_violations.specs.Order.{violation}
-use Rattle.pz_classes.specs.Numbers.{declaration}
-use Rattle.pz_classes.specs.Reached.{AncestorsAreReached}
-use Rattle.pz_classes.specs.Members.{own_variables, own_ports, fields, variables, ports}
-use Rattle.pz_classes.specs.Instances.{instances}
-use Rattle.pz_classes.specs.CallRules.{own_messages}
-use Rattle.pz_classes.specs.RepeatRules.{Repeats, same_name, RepeatsName, Heading, headings, same_heading, same_message, BreaksC4, again_field, again_variable, again_port, again_local, again_instance, again_method, again_message}
-use Rattle.pz_classes.specs.Soundness.{IsSound, a_repeat}
+use Rattle.pz_env_tree.specs.pz_check_violations.declared.violation.Violation.{Violation}
+use Rattle.pz_env_tree.specs.pz_check_violations.Order.{violation}
+use Rattle.pz_env_tree.specs.pz_classes_rules.Numbers.{declaration}
+use Rattle.pz_env_tree.specs.pz_classes_rules.Reached.{AncestorsAreReached}
+use Rattle.pz_env_tree.specs.pz_classes_rules.Members.{own_variables, own_ports, fields, variables, ports}
+use Rattle.pz_env_tree.specs.pz_classes_rules.Instances.{instances}
+use Rattle.pz_env_tree.specs.pz_classes_rules.CallRules.{own_messages}
+use Rattle.pz_env_tree.specs.pz_classes_rules.RepeatRules.{Repeats, same_name, RepeatsName, Heading, headings, same_heading, same_message, BreaksC4, again_field, again_variable, again_port, again_local, again_instance, again_method, again_message}
+use Rattle.pz_env_tree.specs.pz_classes_rules.Soundness.{IsSound, a_repeat}
 use Rattle.pz_env_grown.proofs.Elements.{none_in, in_cases}
 use Rattle.pz_env_sound.proofs.Grown.{grown_decl, grown, IsDeclared, old, new, declared}
 use Rattle.pz_env_sound.proofs.Members.{messages_kept, fields_same, variables_same, ports_same, fields_new, variables_new, ports_new}

@@ -2,8 +2,8 @@
 use Rattle.std.proofs.Common.{◌≡◌, sym, ap, ◌∙◌, ℕ, zero, suc, ◌+◌, Bool, List, [], ◌∷◌, ◌++◌, length, Some, IsTrue, slice_get, arith, ◌⊎◌, inl, inr}
 use Rattle.std.specs.List.{Contains}
 use Rattle.std.proofs.lemmas.Option.{slice_get_within}
-use Rattle.pz_syntax.specs.declared.tokens.Pos.{Pos}
-use Rattle.pz_classes.specs.RepeatRules.{Repeats}
+use Rattle.pz_env_tree.specs.pz_syntax.declared.tokens.Pos.{Pos}
+use Rattle.pz_env_tree.specs.pz_classes_rules.RepeatRules.{Repeats}
 use Rattle.pz_env_grown.proofs.Elements.{later_in}
 use Rattle.pz_env_grown.proofs.Numbers.{none_some, some_same}
 

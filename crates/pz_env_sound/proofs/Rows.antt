@@ -7,35 +7,35 @@ use Rattle.std.specs.Fmt.{digits}
 use Rattle.std.proofs.lemmas.Bool.{and_parts, both_ways, false≢true, not-true}
 use Rattle.std.proofs.lemmas.List.Elements.{All-contains}
 use Rattle.std.proofs.lemmas.List.Sums.{AllPass-from_list_all}
-use Rattle.pz_syntax.specs.declared.names.Id.{Id}
-use Rattle.pz_syntax.specs.declared.classes.Message.{Message}
-use Rattle.pz_syntax.specs.declared.clusters.Instance.{Instance}
-use Rattle.pz_syntax.specs.declared.clusters.ChannelEnd.{ChannelEnd}
-use Rattle.pz_syntax.specs.declared.clusters.SystemDecl.{SystemDecl}
-use Rattle.pz_syntax.specs.Classes.{DeclTree}
-use Rattle.pz_value.specs.declared.value.Value.TheVariants.{Int}
+use Rattle.pz_env_tree.specs.pz_syntax.declared.names.Id.{Id}
+use Rattle.pz_env_tree.specs.pz_syntax.declared.classes.Message.{Message}
+use Rattle.pz_env_tree.specs.pz_syntax.declared.clusters.Instance.{Instance}
+use Rattle.pz_env_tree.specs.pz_syntax.declared.clusters.ChannelEnd.{ChannelEnd}
+use Rattle.pz_env_tree.specs.pz_syntax.declared.clusters.SystemDecl.{SystemDecl}
+use Rattle.pz_env_tree.specs.pz_syntax.Classes.{DeclTree}
+use Rattle.pz_env_tree.specs.pz_value.declared.value.Value.TheVariants.{Int}
 use Rattle.pz_classes_mentions.specs.declared.mention.Mention.{Mention}
 use Rattle.pz_classes_mentions.specs.declared.local_scope.LocalScope.{LocalScope}
 use Rattle.pz_classes_mentions.specs.Declarations.{parts}
-use Rattle.pz_check_violations.specs.declared.violation.Violation.{Violation}
-use Rattle.pz_classes.specs.Numbers.{declared_name, declaration}
-use Rattle.pz_classes.specs.Ancestors.{extended, parent}
-use Rattle.pz_classes.specs.Kinds.{is_cluster}
-use Rattle.pz_classes.specs.Members.{fields, variables, ports, spelled}
-use Rattle.pz_classes.specs.Instances.{instances, instance_class, parameters}
-use Rattle.pz_classes.specs.InstanceRules.{given_names, gives_each, BreaksC14, ill_given, holds_itself}
-use Rattle.pz_classes.specs.CallRules.{own_messages}
-use Rattle.pz_classes.specs.RepeatRules.{Repeats, same_name, RepeatsName, Heading, headings, same_heading, same_message, BreaksC4, again_field, again_variable, again_port, again_local, again_instance, again_method, again_message}
-use Rattle.pz_classes.specs.ChannelRules.{end_place, ends, no_end, same_end, again_end, again_outer}
-use Rattle.pz_classes.specs.SizeRules.{system_size, is_too_large, too_large, again_system, no_system}
-use Rattle.pz_classes.specs.Soundness.{Breaks, a_word, a_repeat, given, holding, an_end, two_ends, size, the_system as the_system_rule, IsSound}
-use Rattle.pz_classes.specs.Violations.{breaks_c1, breaks_c2, Violates, c1, c2, c3}
-use Rattle.pz_classes.specs.Words.{Mentions}
+use Rattle.pz_env_tree.specs.pz_check_violations.declared.violation.Violation.{Violation}
+use Rattle.pz_env_tree.specs.pz_classes_rules.Numbers.{declared_name, declaration}
+use Rattle.pz_env_tree.specs.pz_classes_rules.Ancestors.{extended, parent}
+use Rattle.pz_env_tree.specs.pz_classes_rules.Kinds.{is_cluster}
+use Rattle.pz_env_tree.specs.pz_classes_rules.Members.{fields, variables, ports, spelled}
+use Rattle.pz_env_tree.specs.pz_classes_rules.Instances.{instances, instance_class, parameters}
+use Rattle.pz_env_tree.specs.pz_classes_rules.InstanceRules.{given_names, gives_each, BreaksC14, ill_given, holds_itself}
+use Rattle.pz_env_tree.specs.pz_classes_rules.CallRules.{own_messages}
+use Rattle.pz_env_tree.specs.pz_classes_rules.RepeatRules.{Repeats, same_name, RepeatsName, Heading, headings, same_heading, same_message, BreaksC4, again_field, again_variable, again_port, again_local, again_instance, again_method, again_message}
+use Rattle.pz_env_tree.specs.pz_classes_rules.ChannelRules.{end_place, ends, no_end, same_end, again_end, again_outer}
+use Rattle.pz_env_tree.specs.pz_classes_rules.SizeRules.{system_size, is_too_large, too_large, again_system, no_system}
+use Rattle.pz_env_tree.specs.pz_classes_rules.Soundness.{Breaks, a_word, a_repeat, given, holding, an_end, two_ends, size, the_system as the_system_rule, IsSound}
+use Rattle.pz_env_tree.specs.pz_classes_rules.Violations.{breaks_c1, breaks_c2, Violates, c1, c2, c3}
+use Rattle.pz_env_tree.specs.pz_classes_rules.Words.{Mentions}
 use Rattle.pz_classes_openings.specs.Openings.{begun_at, calls_at, statements_at, called, of_called, opened_to}
 use Rattle.pz_classes_openings.specs.OpeningRules.{BreaksC23, round, BreaksC24, too_large as too_large_method, Opens}
-use Rattle.pz_env_script.specs.Literals.{number, none as no_more, more}
-use Rattle.pz_env_script.specs.Entries.{sends}
-use Rattle.pz_env_script.specs.Scripts.{IsWritten}
+use Rattle.pz_env_tree.specs.pz_env_script.Literals.{number, none as no_more, more}
+use Rattle.pz_env_tree.specs.pz_env_script.Entries.{sends}
+use Rattle.pz_env_tree.specs.pz_env_script.Scripts.{IsWritten}
 use Rattle.pz_env_tree.proofs.pz_env_rules_proofs.WorkedSystem.{at, id, class_R, system_of, instance_r, model, script}
 use Rattle.pz_env_tree.proofs.Refusing.{refused_found}
 use Rattle.pz_env_grown.proofs.Elements.{none_in, in_cases}

@@ -3,19 +3,19 @@ use Rattle.std.proofs.Common.{◌≡◌, refl, sym, ap, subst, ◌∙◌, ℕ, z
 use Rattle.std.specs.List.{Contains, flat_map}
 use Rattle.std.specs.Option.{option_map_or}
 use Rattle.std.proofs.lemmas.Bool.{both_ways, false≢true, or_from}
-use Rattle.pz_syntax.specs.declared.clusters.Instance.{Instance}
-use Rattle.pz_syntax.specs.declared.clusters.Channel.{Channel}
-use Rattle.pz_syntax.specs.declared.clusters.SystemDecl.{SystemDecl}
-use Rattle.pz_syntax.specs.Classes.{DeclTree, ProcessClassTree, data_class, process_class, cluster_class, system, ModelTree}
-use Rattle.pz_check_violations.specs.declared.violation.Violation.{Violation}
-use Rattle.pz_classes.specs.Numbers.{declaration}
-use Rattle.pz_classes.specs.Kinds.{is_process, is_cluster}
-use Rattle.pz_classes.specs.Reached.{AncestorsAreReached}
-use Rattle.pz_classes.specs.Instances.{instances, channels, instance_class}
-use Rattle.pz_classes.specs.RepeatRules.{Repeats}
-use Rattle.pz_classes.specs.SizeRules.{system_of, systems, Totals, nothing, plus, all_of, one_of, expanded, system_size, is_too_large, BreaksC19, too_large, BreaksC20, again_system, no_system}
-use Rattle.pz_classes.specs.SoundSystem.{SoundSystemsFit, SystemFits}
-use Rattle.pz_classes.specs.Soundness.{IsSound}
+use Rattle.pz_env_tree.specs.pz_syntax.declared.clusters.Instance.{Instance}
+use Rattle.pz_env_tree.specs.pz_syntax.declared.clusters.Channel.{Channel}
+use Rattle.pz_env_tree.specs.pz_syntax.declared.clusters.SystemDecl.{SystemDecl}
+use Rattle.pz_env_tree.specs.pz_syntax.Classes.{DeclTree, ProcessClassTree, data_class, process_class, cluster_class, system, ModelTree}
+use Rattle.pz_env_tree.specs.pz_check_violations.declared.violation.Violation.{Violation}
+use Rattle.pz_env_tree.specs.pz_classes_rules.Numbers.{declaration}
+use Rattle.pz_env_tree.specs.pz_classes_rules.Kinds.{is_process, is_cluster}
+use Rattle.pz_env_tree.specs.pz_classes_rules.Reached.{AncestorsAreReached}
+use Rattle.pz_env_tree.specs.pz_classes_rules.Instances.{instances, channels, instance_class}
+use Rattle.pz_env_tree.specs.pz_classes_rules.RepeatRules.{Repeats}
+use Rattle.pz_env_tree.specs.pz_classes_rules.SizeRules.{system_of, systems, Totals, nothing, plus, all_of, one_of, expanded, system_size, is_too_large, BreaksC19, too_large, BreaksC20, again_system, no_system}
+use Rattle.pz_env_tree.specs.pz_classes_rules.SoundSystem.{SoundSystemsFit, SystemFits}
+use Rattle.pz_env_tree.specs.pz_classes_rules.Soundness.{IsSound}
 use Rattle.pz_env_grown.proofs.Elements.{none_in, first_in, in_cases}
 use Rattle.pz_env_grown.proofs.Paths.{IsPart, part_of}
 use Rattle.pz_env_sound.proofs.Grown.{grown_decl, grown, decls_counted, declaration_old, declaration_new}

@@ -5,15 +5,15 @@ use Rattle.std.specs.Option.{is_some, option_map_or}
 use Rattle.std.specs.Str.{bytes_eq}
 use Rattle.std.proofs.lemmas.Bool.{both_ways, or_parts}
 use Rattle.std.proofs.lemmas.Bool.Decides.{nat_tests}
-use Rattle.pz_syntax.specs.declared.clusters.Instance.{Instance}
-use Rattle.pz_syntax.specs.declared.clusters.SystemDecl.{SystemDecl}
-use Rattle.pz_syntax.specs.Classes.{DeclTree, data_class, process_class, cluster_class, system, ModelTree}
-use Rattle.pz_classes.specs.Numbers.{declaration, class}
-use Rattle.pz_classes.specs.Instances.{instances, channels}
-use Rattle.pz_classes.specs.SizeRules.{system_of, systems, system_size}
-use Rattle.pz_classes.specs.SoundSystem.{SystemFits}
-use Rattle.pz_bind.specs.Nest.{first_system, system_class, instances_at, channels_at}
-use Rattle.pz_env_script.specs.declared.entry.Entry.{Entry}
+use Rattle.pz_env_tree.specs.pz_syntax.declared.clusters.Instance.{Instance}
+use Rattle.pz_env_tree.specs.pz_syntax.declared.clusters.SystemDecl.{SystemDecl}
+use Rattle.pz_env_tree.specs.pz_syntax.Classes.{DeclTree, data_class, process_class, cluster_class, system, ModelTree}
+use Rattle.pz_env_tree.specs.pz_classes_rules.Numbers.{declaration, class}
+use Rattle.pz_env_tree.specs.pz_classes_rules.Instances.{instances, channels}
+use Rattle.pz_env_tree.specs.pz_classes_rules.SizeRules.{system_of, systems, system_size}
+use Rattle.pz_env_tree.specs.pz_classes_rules.SoundSystem.{SystemFits}
+use Rattle.pz_env_tree.specs.pz_bind_rules.Nest.{first_system, system_class, instances_at, channels_at}
+use Rattle.pz_env_tree.specs.pz_env_script.declared.entry.Entry.{Entry}
 use Rattle.pz_env_tree.specs.pz_env_rules.Environment.{Line, lines_from, lines_of}
 use Rattle.pz_env_tree.specs.Names.{class_name, instance_name}
 use Rattle.pz_env_tree.specs.Refusals.{IsFirstRefused, full_processes, most_channels}

@@ -6,26 +6,26 @@ use Rattle.std.specs.Option.{option_map_or, option_and_then, unwrap_or}
 use Rattle.std.proofs.lemmas.Bool.{both_ways, false_from_ne_true, or_left}
 use Rattle.std.proofs.lemmas.Grind.{flat_map-append}
 use Rattle.std.proofs.lemmas.List.Elements.{Contains-append_cases}
-use Rattle.pz_syntax.specs.declared.names.Id.{Id}
-use Rattle.pz_syntax.specs.declared.clusters.Instance.{Instance}
-use Rattle.pz_syntax.specs.declared.clusters.Given.{Given}
-use Rattle.pz_syntax.specs.declared.clusters.SystemDecl.{SystemDecl}
-use Rattle.pz_syntax.specs.Classes.{DeclTree, ProcessClassTree, data_class, process_class, cluster_class, system, ModelTree}
+use Rattle.pz_env_tree.specs.pz_syntax.declared.names.Id.{Id}
+use Rattle.pz_env_tree.specs.pz_syntax.declared.clusters.Instance.{Instance}
+use Rattle.pz_env_tree.specs.pz_syntax.declared.clusters.Given.{Given}
+use Rattle.pz_env_tree.specs.pz_syntax.declared.clusters.SystemDecl.{SystemDecl}
+use Rattle.pz_env_tree.specs.pz_syntax.Classes.{DeclTree, ProcessClassTree, data_class, process_class, cluster_class, system, ModelTree}
 use Rattle.pz_classes_mentions.specs.declared.mention.Mention.{Mention}
 use Rattle.pz_classes_mentions.specs.declared.mention.Mention.TheVariants.{Instantiated}
 use Rattle.pz_classes_mentions.specs.declared.local_scope.LocalScope.{LocalScope}
 use Rattle.pz_classes_mentions.specs.Declarations.{parts, mentioned_instance, mentioned_instances, mentioned_givens, system_part}
-use Rattle.pz_check_violations.specs.declared.violation.Violation.{Violation}
-use Rattle.pz_check_violations.specs.Order.{violation}
-use Rattle.pz_classes_code.specs.ReservedNames.{is_unsupported}
-use Rattle.pz_classes.specs.Numbers.{declaration}
-use Rattle.pz_classes.specs.Kinds.{is_process, is_cluster, is_declared_as}
-use Rattle.pz_classes.specs.Reached.{AncestorsAreReached}
-use Rattle.pz_classes.specs.NameRules.{breaks_c5, breaks_c6, has_instances, breaks_c12, breaks_c13, breaks_c18, breaks_c21, breaks_c22}
-use Rattle.pz_classes.specs.CallRules.{breaks_c7, breaks_c8, breaks_c9, breaks_c10, breaks_c11}
-use Rattle.pz_classes.specs.Words.{Mentions, place}
-use Rattle.pz_classes.specs.WordRules.{BreaksWord, c5, c6, c7, c8, c9, c10, c11, c12, c13, c18, c21, c22}
-use Rattle.pz_classes.specs.Soundness.{IsSound, a_word}
+use Rattle.pz_env_tree.specs.pz_check_violations.declared.violation.Violation.{Violation}
+use Rattle.pz_env_tree.specs.pz_check_violations.Order.{violation}
+use Rattle.pz_env_tree.specs.pz_classes_code.ReservedNames.{is_unsupported}
+use Rattle.pz_env_tree.specs.pz_classes_rules.Numbers.{declaration}
+use Rattle.pz_env_tree.specs.pz_classes_rules.Kinds.{is_process, is_cluster, is_declared_as}
+use Rattle.pz_env_tree.specs.pz_classes_rules.Reached.{AncestorsAreReached}
+use Rattle.pz_env_tree.specs.pz_classes_rules.NameRules.{breaks_c5, breaks_c6, has_instances, breaks_c12, breaks_c13, breaks_c18, breaks_c21, breaks_c22}
+use Rattle.pz_env_tree.specs.pz_classes_rules.CallRules.{breaks_c7, breaks_c8, breaks_c9, breaks_c10, breaks_c11}
+use Rattle.pz_env_tree.specs.pz_classes_rules.Words.{Mentions, place}
+use Rattle.pz_env_tree.specs.pz_classes_rules.WordRules.{BreaksWord, c5, c6, c7, c8, c9, c10, c11, c12, c13, c18, c21, c22}
+use Rattle.pz_env_tree.specs.pz_classes_rules.Soundness.{IsSound, a_word}
 use Rattle.pz_env_grown.proofs.Elements.{none_in, in_cases}
 use Rattle.pz_env_sound.proofs.Grown.{grown_decl, grown, IsDeclared, old, new, declared, declared_other, declaration_new, class_new}
 use Rattle.pz_env_sound.proofs.NewParts.{IsFresh, Gains}

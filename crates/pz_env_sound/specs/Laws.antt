@@ -1,10 +1,10 @@
 -- The tree of a system that a script may close violates no rule, opens, and has few marks.
 use Rattle.std.specs.Prelude.{List}
-use Rattle.pz_syntax.specs.ModelText.{HasFewMarks}
-use Rattle.pz_syntax.specs.Classes.{ModelTree}
-use Rattle.pz_classes.specs.Soundness.{IsSound}
+use Rattle.pz_env_tree.specs.pz_syntax.ModelText.{HasFewMarks}
+use Rattle.pz_env_tree.specs.pz_syntax.Classes.{ModelTree}
+use Rattle.pz_env_tree.specs.pz_classes_rules.Soundness.{IsSound}
 use Rattle.pz_classes_openings.specs.OpeningRules.{Opens}
-use Rattle.pz_env_script.specs.declared.entry.Entry.{Entry}
+use Rattle.pz_env_tree.specs.pz_env_script.declared.entry.Entry.{Entry}
 use Rattle.pz_env_tree.specs.ClosedTree.{closed_tree}
 use Rattle.pz_env_sound.specs.MayClose.{MayClose}
 

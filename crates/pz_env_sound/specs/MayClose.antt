@@ -1,11 +1,11 @@
 -- Which scripts may close which models.
 use Rattle.std.specs.Prelude.{◌<◌, ◌^◌, ℕ, List, length}
-use Rattle.pz_syntax.specs.ModelText.{text}
-use Rattle.pz_syntax.specs.Classes.{ModelTree}
-use Rattle.pz_classes.specs.Soundness.{IsSound}
+use Rattle.pz_env_tree.specs.pz_syntax.ModelText.{text}
+use Rattle.pz_env_tree.specs.pz_syntax.Classes.{ModelTree}
+use Rattle.pz_env_tree.specs.pz_classes_rules.Soundness.{IsSound}
 use Rattle.pz_classes_openings.specs.OpeningRules.{Opens}
-use Rattle.pz_env_script.specs.declared.entry.Entry.{Entry}
-use Rattle.pz_env_script.specs.Scripts.{IsWritten}
+use Rattle.pz_env_tree.specs.pz_env_script.declared.entry.Entry.{Entry}
+use Rattle.pz_env_tree.specs.pz_env_script.Scripts.{IsWritten}
 use Rattle.pz_env_tree.specs.Refusals.{IsFirstRefused}
 
 -- The model violates no rule, those on what opens among them; its text has few marks, so that there is

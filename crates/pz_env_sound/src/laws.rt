@@ -6,8 +6,8 @@ ghost use Rattle.pz_env_sound.specs.Laws.{ClosedTreesAreSound, ClosedTreesOpen, 
 pub fn closed_trees_are_sound()
     ensures law { ClosedTreesAreSound }
 {
-    pz_classes::laws::ancestors_are_reached();
-    pz_classes::laws::sound_systems_fit();
+    pz_env_tree::pz_classes_rules::laws::ancestors_are_reached();
+    pz_env_tree::pz_classes_rules::laws::sound_systems_fit();
     pz_env_tree::laws::refusals_are_computed();
 }
 
@@ -16,8 +16,8 @@ pub fn closed_trees_are_sound()
 pub fn closed_trees_open()
     ensures law { ClosedTreesOpen }
 {
-    pz_classes::laws::ancestors_are_reached();
-    pz_classes::laws::sound_systems_fit();
+    pz_env_tree::pz_classes_rules::laws::ancestors_are_reached();
+    pz_env_tree::pz_classes_rules::laws::sound_systems_fit();
     pz_env_tree::laws::refusals_are_computed();
 }
 
@@ -25,5 +25,5 @@ pub fn closed_trees_open()
 pub fn closed_trees_have_few_marks()
     ensures law { ClosedTreesHaveFewMarks }
 {
-    pz_classes::laws::sound_systems_fit();
+    pz_env_tree::pz_classes_rules::laws::sound_systems_fit();
 }

@@ -5,13 +5,13 @@ use Rattle.std.specs.List.{list_any, Any, Contains}
 use Rattle.std.proofs.lemmas.Bool.{leb-true, le-leb, ltb-true, lt-ltb}
 use Rattle.std.proofs.lemmas.List.Folds.{Any-from_list_any, list_any-from_Any}
 use Rattle.std.proofs.lemmas.Slice.Eq.{bytes_eq-Decides}
-use Rattle.pz_syntax.specs.Classes.{ModelTree}
-use Rattle.pz_classes.specs.Numbers.{class}
-use Rattle.pz_classes.specs.Members.{ports, spelled}
-use Rattle.pz_classes.specs.SizeRules.{systems, system_size}
-use Rattle.pz_bind.specs.Nest.{class_of, instances_at, channels_at}
-use Rattle.pz_bind.specs.Connections.{names_inner}
-use Rattle.pz_env_script.specs.declared.entry.Entry.{Entry}
+use Rattle.pz_env_rules.specs.pz_syntax.Classes.{ModelTree}
+use Rattle.pz_env_rules.specs.pz_classes_rules.Numbers.{class}
+use Rattle.pz_env_rules.specs.pz_classes_rules.Members.{ports, spelled}
+use Rattle.pz_env_rules.specs.pz_classes_rules.SizeRules.{systems, system_size}
+use Rattle.pz_env_rules.specs.pz_bind_rules.Nest.{class_of, instances_at, channels_at}
+use Rattle.pz_env_rules.specs.pz_bind_rules.Connections.{names_inner}
+use Rattle.pz_env_rules.specs.pz_env_script.declared.entry.Entry.{Entry}
 use Rattle.pz_env_tree.specs.Names.{class_name, instance_name}
 use Rattle.pz_env_tree.specs.Refusals.{full_processes, most_channels, IsFull, has_class, has_instance, has_processes, has_channels, IsPort, IsBadEntry, no_port, taken, IsFirstRefused, no_room, bad_entry}
 use Rattle.pz_env_tree.specs.devices.Refused.{is_named_so, is_crowded, is_wide, is_full, has_port, is_port, is_taken, is_bad, first_bad, refused}

@@ -2,14 +2,14 @@
 use Rattle.std.proofs.Common.{◌≡◌, refl, [], ◌∷◌, true, Some, None}
 use Rattle.std.specs.Prelude.{codes, pos}
 use Rattle.std.specs.Fmt.{digits}
-use Rattle.pz_syntax.specs.declared.clusters.ChannelEnd.TheVariants.{Inner}
-use Rattle.pz_syntax.specs.declared.exprs.Literal.TheVariants as literal
-use Rattle.pz_syntax.specs.Expressions as expression
-use Rattle.pz_syntax.specs.Expressions.{none, more, left_out, written}
-use Rattle.pz_syntax.specs.Statements.{delay, send, no_statements, then}
-use Rattle.pz_syntax.specs.Classes.{process_class, ModelTree}
-use Rattle.pz_value.specs.declared.value.Value.TheVariants.{Int}
-use Rattle.pz_env_script.specs.declared.entry.Transfer.TheVariants.{Send, Receive}
+use Rattle.pz_env_rules.specs.pz_syntax.declared.clusters.ChannelEnd.TheVariants.{Inner}
+use Rattle.pz_env_rules.specs.pz_syntax.declared.exprs.Literal.TheVariants as literal
+use Rattle.pz_env_rules.specs.pz_syntax.Expressions as expression
+use Rattle.pz_env_rules.specs.pz_syntax.Expressions.{none, more, left_out, written}
+use Rattle.pz_env_rules.specs.pz_syntax.Statements.{delay, send, no_statements, then}
+use Rattle.pz_env_rules.specs.pz_syntax.Classes.{process_class, ModelTree}
+use Rattle.pz_env_rules.specs.pz_value.declared.value.Value.TheVariants.{Int}
+use Rattle.pz_env_rules.specs.pz_env_script.declared.entry.Transfer.TheVariants.{Send, Receive}
 use Rattle.pz_env_rules.proofs.WorkedSystem.{at, id, entry, instance_r, system_of, class_R, model, script}
 use Rattle.pz_env_tree.specs.ClosedTree.{closed_tree}
 use Rattle.pz_env_tree.specs.Refusals.{IsFirstRefused}

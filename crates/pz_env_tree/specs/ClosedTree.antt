@@ -3,12 +3,12 @@
 -- instance behind those of the system, and a channel for each end behind the system's own.
 use Rattle.std.specs.Prelude.{List, [], ◌∷◌, ◌++◌, map, Some, None}
 use Rattle.std.specs.Option.{unwrap_or}
-use Rattle.pz_syntax.specs.declared.clusters.Instance.{Instance}
-use Rattle.pz_syntax.specs.declared.clusters.Channel.{Channel}
-use Rattle.pz_syntax.specs.declared.clusters.ChannelEnd.TheVariants.{Inner}
-use Rattle.pz_syntax.specs.declared.clusters.SystemDecl.{SystemDecl}
-use Rattle.pz_syntax.specs.Classes.{DeclTree, data_class, process_class, cluster_class, system, ModelTree}
-use Rattle.pz_env_script.specs.declared.entry.Entry.{Entry}
+use Rattle.pz_env_rules.specs.pz_syntax.declared.clusters.Instance.{Instance}
+use Rattle.pz_env_rules.specs.pz_syntax.declared.clusters.Channel.{Channel}
+use Rattle.pz_env_rules.specs.pz_syntax.declared.clusters.ChannelEnd.TheVariants.{Inner}
+use Rattle.pz_env_rules.specs.pz_syntax.declared.clusters.SystemDecl.{SystemDecl}
+use Rattle.pz_env_rules.specs.pz_syntax.Classes.{DeclTree, data_class, process_class, cluster_class, system, ModelTree}
+use Rattle.pz_env_rules.specs.pz_env_script.declared.entry.Entry.{Entry}
 use Rattle.pz_env_rules.specs.Environment.{Line, lines_of, at_line}
 use Rattle.pz_env_rules.specs.Ends.{first_mentions, named_at}
 use Rattle.pz_env_tree.specs.Names.{class_name, instance_name, port_of}

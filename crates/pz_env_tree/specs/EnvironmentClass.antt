@@ -10,20 +10,20 @@
 use Rattle.std.specs.Prelude.{ℕ, Bool, true, false, not, ◌&&◌, ◌==◌, List, [], ◌∷◌, map, replicate, Option, Some, None}
 use Rattle.std.specs.List.{filter}
 use Rattle.std.specs.Str.{bytes_eq}
-use Rattle.pz_syntax.specs.declared.names.Id.{Id}
-use Rattle.pz_syntax.specs.declared.tokens.Pos.{Pos}
-use Rattle.pz_syntax.specs.declared.classes.Message.{Message}
-use Rattle.pz_syntax.specs.declared.exprs.Literal.{Literal}
-use Rattle.pz_syntax.specs.declared.exprs.Literal.TheVariants as literal
-use Rattle.pz_syntax.specs.Expressions as expression
-use Rattle.pz_syntax.specs.Expressions.{Expression, Expressions, none, more, Part, left_out, written}
-use Rattle.pz_syntax.specs.Statements.{Statement, Statements, delay, send, receive, no_statements, then}
-use Rattle.pz_syntax.specs.Classes.{ProcessMethodTree, ProcessClassTree}
-use Rattle.pz_value.specs.declared.value.Value.{Value}
-use Rattle.pz_value.specs.declared.value.Value.TheVariants as value
-use Rattle.pz_env_script.specs.declared.entry.Transfer.{Transfer}
-use Rattle.pz_env_script.specs.declared.entry.Transfer.TheVariants.{Send, Receive}
-use Rattle.pz_env_script.specs.Entries.{count_in}
+use Rattle.pz_env_rules.specs.pz_syntax.declared.names.Id.{Id}
+use Rattle.pz_env_rules.specs.pz_syntax.declared.tokens.Pos.{Pos}
+use Rattle.pz_env_rules.specs.pz_syntax.declared.classes.Message.{Message}
+use Rattle.pz_env_rules.specs.pz_syntax.declared.exprs.Literal.{Literal}
+use Rattle.pz_env_rules.specs.pz_syntax.declared.exprs.Literal.TheVariants as literal
+use Rattle.pz_env_rules.specs.pz_syntax.Expressions as expression
+use Rattle.pz_env_rules.specs.pz_syntax.Expressions.{Expression, Expressions, none, more, Part, left_out, written}
+use Rattle.pz_env_rules.specs.pz_syntax.Statements.{Statement, Statements, delay, send, receive, no_statements, then}
+use Rattle.pz_env_rules.specs.pz_syntax.Classes.{ProcessMethodTree, ProcessClassTree}
+use Rattle.pz_env_rules.specs.pz_value.declared.value.Value.{Value}
+use Rattle.pz_env_rules.specs.pz_value.declared.value.Value.TheVariants as value
+use Rattle.pz_env_rules.specs.pz_env_script.declared.entry.Transfer.{Transfer}
+use Rattle.pz_env_rules.specs.pz_env_script.declared.entry.Transfer.TheVariants.{Send, Receive}
+use Rattle.pz_env_rules.specs.pz_env_script.Entries.{count_in}
 use Rattle.pz_env_rules.specs.Environment.{Line, at_line}
 use Rattle.pz_env_rules.specs.Ends.{is_same_end, first_mentions, named_at}
 use Rattle.pz_env_tree.specs.Names.{class_name, method_name, variable_name, kind_name, port_of}

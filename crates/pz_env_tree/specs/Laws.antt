@@ -1,7 +1,7 @@
 -- What is refused is computed.
 use Rattle.std.specs.Prelude.{◌≡◌, ◌↔◌, ℕ, List, Some}
-use Rattle.pz_syntax.specs.Classes.{ModelTree}
-use Rattle.pz_env_script.specs.declared.entry.Entry.{Entry}
+use Rattle.pz_env_rules.specs.pz_syntax.Classes.{ModelTree}
+use Rattle.pz_env_rules.specs.pz_env_script.declared.entry.Entry.{Entry}
 use Rattle.pz_env_tree.specs.Refusals.{IsFirstRefused}
 use Rattle.pz_env_tree.specs.devices.Refused.{refused}
 

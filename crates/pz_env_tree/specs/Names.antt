@@ -3,7 +3,7 @@
 use Rattle.std.specs.Prelude.{ℕ, List, ◌++◌, codes}
 use Rattle.std.specs.List.{position_or_len}
 use Rattle.std.specs.Fmt.{decimal}
-use Rattle.pz_syntax.specs.declared.names.Id.{Id}
+use Rattle.pz_env_rules.specs.pz_syntax.declared.names.Id.{Id}
 use Rattle.pz_env_rules.specs.Environment.{Line}
 use Rattle.pz_env_rules.specs.Ends.{is_same_end, first_mentions, named_at}
 

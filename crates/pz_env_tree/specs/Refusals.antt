@@ -1,12 +1,12 @@
 -- Which scripts cannot drive a system, and from which line on.
 use Rattle.std.specs.Prelude.{◌≡◌, ◌≤◌, ◌<◌, ◌+◌, ℕ, true, List, [], Any, Contains, Some, slice_get}
-use Rattle.pz_syntax.specs.Classes.{ModelTree}
-use Rattle.pz_classes.specs.Numbers.{class}
-use Rattle.pz_classes.specs.Members.{ports, spelled}
-use Rattle.pz_classes.specs.SizeRules.{systems, system_size}
-use Rattle.pz_bind.specs.Nest.{class_of, instances_at, channels_at}
-use Rattle.pz_bind.specs.Connections.{names_inner}
-use Rattle.pz_env_script.specs.declared.entry.Entry.{Entry}
+use Rattle.pz_env_rules.specs.pz_syntax.Classes.{ModelTree}
+use Rattle.pz_env_rules.specs.pz_classes_rules.Numbers.{class}
+use Rattle.pz_env_rules.specs.pz_classes_rules.Members.{ports, spelled}
+use Rattle.pz_env_rules.specs.pz_classes_rules.SizeRules.{systems, system_size}
+use Rattle.pz_env_rules.specs.pz_bind_rules.Nest.{class_of, instances_at, channels_at}
+use Rattle.pz_env_rules.specs.pz_bind_rules.Connections.{names_inner}
+use Rattle.pz_env_rules.specs.pz_env_script.declared.entry.Entry.{Entry}
 use Rattle.pz_env_tree.specs.Names.{class_name, instance_name}
 
 -- where there are as many processes, or more channels, an environment does not fit

@@ -3,27 +3,27 @@ use Rattle.std.proofs.Common.{◌≡◌, ℕ, List, [], Result, Ok, Err, sym, ap
 use Rattle.std.specs.Prelude.{OnErr}
 use Rattle.std.proofs.Math.Logic.{∥∥₁_elim}
 use base.Stored.{Coded-set}
-use Rattle.pz_syntax.specs.Classes.{ModelTree}
-use Rattle.pz_value.specs.declared.value.Value.{Value}
+use Rattle.pz_classes_code.specs.pz_syntax.Classes.{ModelTree}
+use Rattle.pz_classes_code.specs.pz_value.declared.value.Value.{Value}
 use Rattle.pz_classes_code.specs.CodeView.{Tree}
-use Rattle.pz_state.specs.States.{StateView}
-use Rattle.pz_state.specs.Marks.{Seen, marked, undone, undone_from, kept, older, IsLatest, point_of_first}
-use Rattle.pz_state.specs.contracts.state.State as state_contract
-use Rattle.pz_eval_rules.specs.declared.allowance.Allowance.{Allowance}
-use Rattle.pz_eval_rules.specs.declared.outcome.Outcome.{Outcome}
-use Rattle.pz_eval_rules.specs.declared.outcome.Outcome.TheVariants as outcome
-use Rattle.pz_eval_rules.specs.declared.outcome.Listed.{Listed}
-use Rattle.pz_eval_rules.specs.declared.outcome.Listed.TheVariants as listed
-use Rattle.pz_eval_rules.specs.contracts.outcome.Outcome as outcome_contract
-use Rattle.pz_eval_rules.specs.contracts.outcome.Listed as listed_contract
-use Rattle.pz_eval_rules.specs.Memories.{Memory}
-use Rattle.pz_eval_rules.specs.Steps.{Codes}
-use Rattle.pz_eval_rules.specs.Outcomes.{outside, Finds, FindsAll}
-use Rattle.pz_eval_rules.specs.devices.Computed.{Reached, done}
-use Rattle.pz_eval_rules.specs.devices.Laws.{ComputedIsFound, ComputedListIsFound}
-use Rattle.pz_eval_rules.specs.devices.Outcomes.{reached_value, reached_list, outcome_of, listed_of, state_after}
-use Rattle.pz_eval_operations.specs.declared.stop.Stop.{Stop}
-use Rattle.pz_eval_operations.specs.declared.stop.Stop.TheVariants as stop
+use Rattle.pz_copy.specs.pz_state.States.{StateView}
+use Rattle.pz_copy.specs.pz_state.Marks.{Seen, marked, undone, undone_from, kept, older, IsLatest, point_of_first}
+use Rattle.pz_copy.specs.pz_state.contracts.state.State as state_contract
+use Rattle.pz_eval_machine.specs.pz_eval_rules.declared.allowance.Allowance.{Allowance}
+use Rattle.pz_eval_machine.specs.pz_eval_rules.declared.outcome.Outcome.{Outcome}
+use Rattle.pz_eval_machine.specs.pz_eval_rules.declared.outcome.Outcome.TheVariants as outcome
+use Rattle.pz_eval_machine.specs.pz_eval_rules.declared.outcome.Listed.{Listed}
+use Rattle.pz_eval_machine.specs.pz_eval_rules.declared.outcome.Listed.TheVariants as listed
+use Rattle.pz_eval_machine.specs.pz_eval_rules.contracts.outcome.Outcome as outcome_contract
+use Rattle.pz_eval_machine.specs.pz_eval_rules.contracts.outcome.Listed as listed_contract
+use Rattle.pz_eval_machine.specs.pz_eval_rules.Memories.{Memory}
+use Rattle.pz_eval_machine.specs.pz_eval_rules.Steps.{Codes}
+use Rattle.pz_eval_machine.specs.pz_eval_rules.Outcomes.{outside, Finds, FindsAll}
+use Rattle.pz_eval_machine.specs.pz_eval_rules.devices.Computed.{Reached, done}
+use Rattle.pz_eval_machine.specs.pz_eval_rules.devices.Laws.{ComputedIsFound, ComputedListIsFound}
+use Rattle.pz_eval_machine.specs.pz_eval_rules.devices.Outcomes.{reached_value, reached_list, outcome_of, listed_of, state_after}
+use Rattle.pz_eval_machine.specs.pz_eval_operations.declared.stop.Stop.{Stop}
+use Rattle.pz_eval_machine.specs.pz_eval_operations.declared.stop.Stop.TheVariants as stop
 use Rattle.pz_eval_machine.specs.declared.control.Finish.{Finish}
 use Rattle.pz_eval_machine.specs.declared.control.Finish.TheVariants as finish
 use Rattle.pz_eval_machine.specs.devices.Steps.{Stops, finished}

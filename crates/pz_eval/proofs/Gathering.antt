@@ -1,18 +1,18 @@
 -- What the evaluation of a list gathers.
 use Rattle.std.proofs.Common.{◌≡◌, ℕ, ◌+◌, ◌<◌, ◌≤◌, List, [], ◌∷◌, ◌++◌, length, drop, get_or, Result, Ok, Err, refl, sym, ap, ◌∙◌, subst}
 use Rattle.std.proofs.lemmas.List.{drop_more, drop_all}
-use Rattle.pz_syntax.specs.Classes.{ModelTree}
-use Rattle.pz_value.specs.declared.value.Value.{Value}
+use Rattle.pz_classes_code.specs.pz_syntax.Classes.{ModelTree}
+use Rattle.pz_classes_code.specs.pz_value.declared.value.Value.{Value}
 use Rattle.pz_classes_code.specs.declared.code.Code.{Code}
 use Rattle.pz_classes_code.specs.CodeView.{view, list_view}
-use Rattle.pz_state.specs.States.{StateView}
-use Rattle.pz_eval_rules.specs.declared.outcome.Listed.TheVariants as listed
-use Rattle.pz_eval_rules.specs.Memories.{Memory, Location}
-use Rattle.pz_eval_rules.specs.Answers.{ends, gives, stops}
-use Rattle.pz_eval_rules.specs.Outcomes.{outside}
-use Rattle.pz_eval_rules.specs.devices.Computed.{Reached, done, Computation, and_then, arguments, evaluated}
-use Rattle.pz_eval_operations.specs.declared.stop.Stop.{Stop}
-use Rattle.pz_eval_operations.specs.declared.stop.Stop.TheVariants as stop
+use Rattle.pz_copy.specs.pz_state.States.{StateView}
+use Rattle.pz_eval_machine.specs.pz_eval_rules.declared.outcome.Listed.TheVariants as listed
+use Rattle.pz_eval_machine.specs.pz_eval_rules.Memories.{Memory, Location}
+use Rattle.pz_eval_machine.specs.pz_eval_rules.Answers.{ends, gives, stops}
+use Rattle.pz_eval_machine.specs.pz_eval_rules.Outcomes.{outside}
+use Rattle.pz_eval_machine.specs.pz_eval_rules.devices.Computed.{Reached, done, Computation, and_then, arguments, evaluated}
+use Rattle.pz_eval_machine.specs.pz_eval_operations.declared.stop.Stop.{Stop}
+use Rattle.pz_eval_machine.specs.pz_eval_operations.declared.stop.Stop.TheVariants as stop
 use Rattle.pz_eval_machine.specs.declared.control.Finish.{Finish}
 use Rattle.pz_eval_machine.specs.devices.Steps.{Stops, finished, Finishes}
 use Rattle.pz_eval.specs.devices.Lists.{Gathers}

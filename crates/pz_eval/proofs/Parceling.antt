@@ -3,22 +3,22 @@ use Rattle.std.proofs.Common.{◌≡◌, ℕ, ◌+◌, ◌<◌, ◌≤◌, ◌�
 use Rattle.std.specs.Prelude.{All, IfOk, IfErr, OnOk, OnErr}
 use Rattle.std.proofs.lemmas.List.{drop_more, drop_all}
 use Rattle.std.proofs.lemmas.Bool.{cases_lt}
-use Rattle.pz_syntax.specs.Classes.{ModelTree}
-use Rattle.pz_value.specs.declared.value.Value.{Value}
+use Rattle.pz_classes_code.specs.pz_syntax.Classes.{ModelTree}
+use Rattle.pz_classes_code.specs.pz_value.declared.value.Value.{Value}
 use Rattle.pz_classes_code.specs.declared.slot.Slot.{Slot}
 use Rattle.pz_classes_code.specs.declared.slot.Slot.TheVariants.{Local, Shared, Unknown}
-use Rattle.pz_state.specs.States.{StateView}
-use Rattle.pz_state.specs.Marks.{Seen, changed}
-use Rattle.pz_state.specs.References.{RefersWithin}
+use Rattle.pz_copy.specs.pz_state.States.{StateView}
+use Rattle.pz_copy.specs.pz_state.Marks.{Seen, changed}
+use Rattle.pz_copy.specs.pz_state.References.{RefersWithin}
 use Rattle.pz_copy.specs.declared.unpacking.UnpackError.{UnpackError}
 use Rattle.pz_copy.specs.declared.unpacking.UnpackError.TheVariants.{NoMemory, StoreFull}
 use Rattle.pz_copy.specs.Parcels.{ParcelView}
 use Rattle.pz_copy.specs.Packing.{IsParcelOf}
-use Rattle.pz_eval_rules.specs.declared.allowance.Allowance.{Allowance}
-use Rattle.pz_eval_rules.specs.declared.outcome.Listed.{Listed}
-use Rattle.pz_eval_rules.specs.declared.outcome.Listed.TheVariants as listed
-use Rattle.pz_eval_rules.specs.Steps.{Codes}
-use Rattle.pz_eval_rules.specs.Outcomes.{FindsAll}
+use Rattle.pz_eval_machine.specs.pz_eval_rules.declared.allowance.Allowance.{Allowance}
+use Rattle.pz_eval_machine.specs.pz_eval_rules.declared.outcome.Listed.{Listed}
+use Rattle.pz_eval_machine.specs.pz_eval_rules.declared.outcome.Listed.TheVariants as listed
+use Rattle.pz_eval_machine.specs.pz_eval_rules.Steps.{Codes}
+use Rattle.pz_eval_machine.specs.pz_eval_rules.Outcomes.{FindsAll}
 use Rattle.pz_eval.specs.declared.parcels.Parceled.{Parceled}
 use Rattle.pz_eval.specs.Promises.{NameWithin}
 use Rattle.pz_eval.specs.Parcels.{FindsParcel, a_parcel}

@@ -1,16 +1,16 @@
 -- What the condition of a receive comes to once a parcel is bound to its variables.
 use Rattle.std.specs.Prelude.{◌≤◌, ◌+◌, ℕ, List, length}
-use Rattle.pz_syntax.specs.declared.tokens.Pos.{Pos}
-use Rattle.pz_syntax.specs.Classes.{ModelTree}
+use Rattle.pz_classes_code.specs.pz_syntax.declared.tokens.Pos.{Pos}
+use Rattle.pz_classes_code.specs.pz_syntax.Classes.{ModelTree}
 use Rattle.pz_classes_code.specs.declared.slot.Slot.{Slot}
 use Rattle.pz_classes_code.specs.CodeView.{Tree}
-use Rattle.pz_state.specs.declared.fault.FaultKind.TheVariants.{StoreFull}
-use Rattle.pz_state.specs.States.{object_limit}
-use Rattle.pz_state.specs.States.{StateView}
+use Rattle.pz_copy.specs.pz_state.declared.fault.FaultKind.TheVariants.{StoreFull}
+use Rattle.pz_copy.specs.pz_state.States.{object_limit}
+use Rattle.pz_copy.specs.pz_state.States.{StateView}
 use Rattle.pz_copy.specs.Parcels.{ParcelView}
-use Rattle.pz_eval_rules.specs.declared.allowance.Allowance.{Allowance}
-use Rattle.pz_eval_rules.specs.declared.outcome.Outcome.{Outcome}
-use Rattle.pz_eval_rules.specs.declared.outcome.Outcome.TheVariants as outcome
+use Rattle.pz_eval_machine.specs.pz_eval_rules.declared.allowance.Allowance.{Allowance}
+use Rattle.pz_eval_machine.specs.pz_eval_rules.declared.outcome.Outcome.{Outcome}
+use Rattle.pz_eval_machine.specs.pz_eval_rules.declared.outcome.Outcome.TheVariants as outcome
 use Rattle.pz_eval_binding.specs.Binding.{bound}
 use Rattle.pz_eval.specs.Tentative.{WouldFind}
 

@@ -1,16 +1,16 @@
 -- The parcel of the values that expressions come to.
 use Rattle.std.specs.Prelude.{ℕ, List}
-use Rattle.pz_syntax.specs.declared.tokens.Pos.{Pos}
-use Rattle.pz_syntax.specs.Classes.{ModelTree}
-use Rattle.pz_value.specs.declared.value.Value.{Value}
-use Rattle.pz_state.specs.declared.fault.FaultKind.{FaultKind}
-use Rattle.pz_state.specs.States.{StateView}
+use Rattle.pz_classes_code.specs.pz_syntax.declared.tokens.Pos.{Pos}
+use Rattle.pz_classes_code.specs.pz_syntax.Classes.{ModelTree}
+use Rattle.pz_classes_code.specs.pz_value.declared.value.Value.{Value}
+use Rattle.pz_copy.specs.pz_state.declared.fault.FaultKind.{FaultKind}
+use Rattle.pz_copy.specs.pz_state.States.{StateView}
 use Rattle.pz_copy.specs.Parcels.{ParcelView}
 use Rattle.pz_copy.specs.Packing.{IsParcelOf}
-use Rattle.pz_eval_rules.specs.declared.allowance.Allowance.{Allowance}
-use Rattle.pz_eval_rules.specs.declared.outcome.Listed.TheVariants as listed
-use Rattle.pz_eval_rules.specs.Steps.{Codes}
-use Rattle.pz_eval_rules.specs.Outcomes.{FindsAll}
+use Rattle.pz_eval_machine.specs.pz_eval_rules.declared.allowance.Allowance.{Allowance}
+use Rattle.pz_eval_machine.specs.pz_eval_rules.declared.outcome.Listed.TheVariants as listed
+use Rattle.pz_eval_machine.specs.pz_eval_rules.Steps.{Codes}
+use Rattle.pz_eval_machine.specs.pz_eval_rules.Outcomes.{FindsAll}
 use Rattle.pz_eval.specs.declared.parcels.Parceled.{Parceled}
 use Rattle.pz_eval.specs.declared.parcels.Parceled.TheVariants as parceled
 

@@ -1,10 +1,10 @@
 -- What an evaluation promises of the state, whatever the model.
 use Rattle.std.specs.Prelude.{ℕ, All}
-use Rattle.pz_state.specs.References.{RefersWithin}
-use Rattle.pz_eval_rules.specs.declared.outcome.Outcome.{Outcome}
-use Rattle.pz_eval_rules.specs.declared.outcome.Outcome.TheVariants as outcome
-use Rattle.pz_eval_rules.specs.declared.outcome.Listed.{Listed}
-use Rattle.pz_eval_rules.specs.declared.outcome.Listed.TheVariants as listed
+use Rattle.pz_copy.specs.pz_state.References.{RefersWithin}
+use Rattle.pz_eval_machine.specs.pz_eval_rules.declared.outcome.Outcome.{Outcome}
+use Rattle.pz_eval_machine.specs.pz_eval_rules.declared.outcome.Outcome.TheVariants as outcome
+use Rattle.pz_eval_machine.specs.pz_eval_rules.declared.outcome.Listed.{Listed}
+use Rattle.pz_eval_machine.specs.pz_eval_rules.declared.outcome.Listed.TheVariants as listed
 
 -- P holds, unless there is a value
 abbrev pub UnlessValue : Type 0 → Outcome → Type 0

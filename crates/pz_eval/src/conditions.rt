@@ -1,24 +1,24 @@
 //! The condition of a receive.
 
 ghost use Rattle.std.specs.Prelude.{◌≡◌, length, Err, IfOk, OnOk, OnErr, All};
-ghost use Rattle.pz_syntax.specs.Classes.{ModelTree};
+ghost use Rattle.pz_classes_code.specs.pz_syntax.Classes.{ModelTree};
 ghost use Rattle.pz_classes_code.specs.CodeView.{view};
-ghost use Rattle.pz_classes.specs.devices.Rows.{AreClasses};
-ghost use Rattle.pz_state.specs.References.{RefersWithin};
-ghost use Rattle.pz_state.specs.Marks.{changed};
-ghost use Rattle.pz_eval_operations.specs.Known.{AreKnown};
+ghost use Rattle.pz_eval_machine.specs.pz_classes.devices.Rows.{AreClasses};
+ghost use Rattle.pz_copy.specs.pz_state.References.{RefersWithin};
+ghost use Rattle.pz_copy.specs.pz_state.Marks.{changed};
+ghost use Rattle.pz_eval_machine.specs.pz_eval_operations.Known.{AreKnown};
 ghost use Rattle.pz_eval_binding.specs.Binding.{set_slots, bound};
 ghost use Rattle.pz_eval.specs.Conditions.{Fits, FindsCondition};
 
 use crate::evaluating::try_eval;
-use pz_classes::Classes;
+use pz_classes_code::pz_syntax::Pos;
+use pz_classes_code::pz_value::Value;
 use pz_classes_code::{Code, Slot};
+use pz_copy::pz_state::{FaultKind, FrameId, State};
 use pz_copy::{Parcel, UnpackError, unpack};
 use pz_eval_binding::set_slots;
-use pz_eval_rules::{Allowance, Outcome};
-use pz_state::{FaultKind, FrameId, State};
-use pz_syntax::Pos;
-use pz_value::Value;
+use pz_eval_machine::pz_classes::Classes;
+use pz_eval_machine::pz_eval_rules::{Allowance, Outcome};
 use std::alloc::{AllocError, Global};
 
 /// Gives variables of the process these values, from left to right.

@@ -1,22 +1,22 @@
 //! Expressions, and lists of them.
 
 ghost use Rattle.std.specs.Prelude.{◌≡◌, length, IfOk, OnErr};
-ghost use Rattle.pz_syntax.specs.Classes.{ModelTree};
+ghost use Rattle.pz_classes_code.specs.pz_syntax.Classes.{ModelTree};
 ghost use Rattle.pz_classes_code.specs.CodeView.{view, list_view};
-ghost use Rattle.pz_classes.specs.devices.Rows.{AreClasses};
-ghost use Rattle.pz_eval_rules.specs.Outcomes.{Finds, FindsAll};
-ghost use Rattle.pz_eval_operations.specs.Known.{AreKnown};
+ghost use Rattle.pz_eval_machine.specs.pz_classes.devices.Rows.{AreClasses};
+ghost use Rattle.pz_eval_machine.specs.pz_eval_rules.Outcomes.{Finds, FindsAll};
+ghost use Rattle.pz_eval_machine.specs.pz_eval_operations.Known.{AreKnown};
 ghost use Rattle.pz_eval.specs.Tentative.{WouldFind};
 ghost use Rattle.pz_eval.specs.devices.Found.{found_value, IsOutcomeOf, IsListedOf};
 ghost use Rattle.pz_eval.specs.Promises.{UnlessValue, UnlessValues, NamesWithin, NameWithin};
 
 use crate::listing::evaluate_list;
-use pz_classes::Classes;
 use pz_classes_code::Code;
+use pz_copy::pz_state::{FrameId, State};
+use pz_eval_machine::pz_classes::Classes;
+use pz_eval_machine::pz_eval_operations::Stop;
+use pz_eval_machine::pz_eval_rules::{Allowance, Listed, Outcome};
 use pz_eval_machine::{Basis, Finish, evaluate};
-use pz_eval_operations::Stop;
-use pz_eval_rules::{Allowance, Listed, Outcome};
-use pz_state::{FrameId, State};
 use std::alloc::{AllocError, Global};
 
 /// The outcome of an evaluation that ends with a value.
@@ -71,7 +71,7 @@ pub fn eval(
     ensures marks { state.new.marks ≡ state.old.marks }
     ensures err { OnErr result (state.new ≡ state.old) }
 {
-    pz_eval_rules::laws::computed_is_found();
+    pz_eval_machine::pz_eval_rules::laws::computed_is_found();
     let point = state.mark()?;
     let basis = Basis {
         alloc,
@@ -107,7 +107,7 @@ pub fn try_eval(
         IfOk result (WouldFind m clock frame.0 state.old.held (view code.now) allowance) }
     ensures state { state.new ≡ state.old }
 {
-    pz_eval_rules::laws::computed_is_found();
+    pz_eval_machine::pz_eval_rules::laws::computed_is_found();
     let point = state.mark()?;
     let basis = Basis {
         alloc,
@@ -143,7 +143,7 @@ pub fn eval_list(
     ensures marks { state.new.marks ≡ state.old.marks }
     ensures err { OnErr result (state.new ≡ state.old) }
 {
-    pz_eval_rules::laws::computed_is_found();
+    pz_eval_machine::pz_eval_rules::laws::computed_is_found();
     let point = state.mark()?;
     let basis = Basis {
         alloc,

@@ -1,22 +1,22 @@
 //! The values of a list of expressions.
 
 ghost use Rattle.std.specs.Prelude.{◌≡◌, ◌≤◌, ℕ, [], ◌∷◌, length, IfOk, All};
-ghost use Rattle.pz_syntax.specs.Classes.{ModelTree};
+ghost use Rattle.pz_classes_code.specs.pz_syntax.Classes.{ModelTree};
 ghost use Rattle.pz_classes_code.specs.CodeView.{list_view};
-ghost use Rattle.pz_state.specs.References.{RefersWithin};
-ghost use Rattle.pz_classes.specs.devices.Rows.{AreClasses};
-ghost use Rattle.pz_eval_rules.specs.Memories.{in_process};
-ghost use Rattle.pz_eval_rules.specs.Outcomes.{outside};
-ghost use Rattle.pz_eval_rules.specs.devices.Computed.{arguments, evaluated};
-ghost use Rattle.pz_eval_operations.specs.Known.{AreKnown};
+ghost use Rattle.pz_copy.specs.pz_state.References.{RefersWithin};
+ghost use Rattle.pz_eval_machine.specs.pz_classes.devices.Rows.{AreClasses};
+ghost use Rattle.pz_eval_machine.specs.pz_eval_rules.Memories.{in_process};
+ghost use Rattle.pz_eval_machine.specs.pz_eval_rules.Outcomes.{outside};
+ghost use Rattle.pz_eval_machine.specs.pz_eval_rules.devices.Computed.{arguments, evaluated};
+ghost use Rattle.pz_eval_machine.specs.pz_eval_operations.Known.{AreKnown};
 ghost use Rattle.pz_eval.specs.devices.Lists.{Gathers};
 
 use pz_classes_code::Code;
+use pz_classes_code::pz_items::Items;
+use pz_classes_code::pz_value::Value;
+use pz_copy::pz_state::{FrameId, State};
+use pz_eval_machine::pz_eval_operations::Stop;
 use pz_eval_machine::{Basis, Finish, evaluate};
-use pz_eval_operations::Stop;
-use pz_items::Items;
-use pz_state::{FrameId, State};
-use pz_value::Value;
 use std::alloc::{AllocError, Global};
 
 /// A list of one value. The only error is want of memory.

@@ -1,20 +1,20 @@
 //! What a send would hand over.
 
 ghost use Rattle.std.specs.Prelude.{◌≡◌, IfOk};
-ghost use Rattle.pz_syntax.specs.Classes.{ModelTree};
+ghost use Rattle.pz_classes_code.specs.pz_syntax.Classes.{ModelTree};
 ghost use Rattle.pz_classes_code.specs.CodeView.{list_view};
-ghost use Rattle.pz_classes.specs.devices.Rows.{AreClasses};
-ghost use Rattle.pz_eval_operations.specs.Known.{AreKnown};
+ghost use Rattle.pz_eval_machine.specs.pz_classes.devices.Rows.{AreClasses};
+ghost use Rattle.pz_eval_machine.specs.pz_eval_operations.Known.{AreKnown};
 ghost use Rattle.pz_eval.specs.Parcels.{FindsParcel};
 ghost use Rattle.pz_eval.specs.devices.Parceled.{parceled};
 
 use crate::evaluating::eval_list;
-use pz_classes::Classes;
 use pz_classes_code::Code;
+use pz_classes_code::pz_syntax::Pos;
+use pz_copy::pz_state::{FaultKind, FrameId, State};
 use pz_copy::{Parcel, pack};
-use pz_eval_rules::{Allowance, Listed};
-use pz_state::{FaultKind, FrameId, State};
-use pz_syntax::Pos;
+use pz_eval_machine::pz_classes::Classes;
+use pz_eval_machine::pz_eval_rules::{Allowance, Listed};
 use std::alloc::{AllocError, Global};
 
 /// What the evaluation of a list finds, its values in a parcel.

@@ -1,8 +1,8 @@
 -- A value for a variable that is not there changes nothing.
 use Rattle.std.proofs.Common.{◌≡◌, ℕ, zero, suc, ◌≤◌, List, [], ◌∷◌, length, nat_eq, Some, refl, sym, ap, arith}
 use Rattle.std.specs.Prelude.{slice_set, unwrap_or, if◌then◌else◌, Bool, true, false}
-use Rattle.pz_value.specs.declared.value.Value.{Value}
-use Rattle.pz_state.specs.States.{StateView, Frames, locals_in, locals_of, at_frame, set_local}
+use Rattle.pz_classes_code.specs.pz_value.declared.value.Value.{Value}
+use Rattle.pz_copy.specs.pz_state.States.{StateView, Frames, locals_in, locals_of, at_frame, set_local}
 
 pub set_past : (values : List Value) (i : ℕ) (y : Value) → length values ≤ i → slice_set values i y ≡ values
 set_past [] i y past = refl

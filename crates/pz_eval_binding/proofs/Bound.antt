@@ -5,13 +5,13 @@ use Rattle.std.proofs.lemmas.List.Elements.{All-nil, All-cons, All-append}
 use Rattle.std.proofs.lemmas.List.{set_past, drop_more, drop-set-lt, take_more, take_all, get_or-drop, length-drop}
 use Rattle.std.proofs.lemmas.Option.{unwrap_or-slice_get}
 use Rattle.std.proofs.lemmas.Bool.{cases_lt}
-use Rattle.pz_value.specs.declared.value.Value.{Value}
-use Rattle.pz_value.specs.declared.value.Value.TheVariants as value
+use Rattle.pz_classes_code.specs.pz_value.declared.value.Value.{Value}
+use Rattle.pz_classes_code.specs.pz_value.declared.value.Value.TheVariants as value
 use Rattle.pz_classes_code.specs.declared.slot.Slot.{Slot}
 use Rattle.pz_classes_code.specs.declared.slot.Slot.TheVariants.{Local, Shared, Unknown}
-use Rattle.pz_state.specs.States.{StateView, Frames, locals_of, locals, value_at, at_frame, set_variable, set_local}
-use Rattle.pz_state.specs.References.{RefersWithin}
-use Rattle.pz_state.specs.Marks.{Seen, changed}
+use Rattle.pz_copy.specs.pz_state.States.{StateView, Frames, locals_of, locals, value_at, at_frame, set_variable, set_local}
+use Rattle.pz_copy.specs.pz_state.References.{RefersWithin}
+use Rattle.pz_copy.specs.pz_state.Marks.{Seen, changed}
 use Rattle.pz_eval_binding.specs.Binding.{set_slot, set_slots, first_slots}
 
 -- the objects stay

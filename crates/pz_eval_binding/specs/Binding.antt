@@ -1,9 +1,9 @@
 -- Values that are bound to variables, from left to right.
 use Rattle.std.specs.Prelude.{ℕ, suc, List, [], ◌∷◌}
-use Rattle.pz_value.specs.declared.value.Value.{Value}
+use Rattle.pz_classes_code.specs.pz_value.declared.value.Value.{Value}
 use Rattle.pz_classes_code.specs.declared.slot.Slot.{Slot}
 use Rattle.pz_classes_code.specs.declared.slot.Slot.TheVariants.{Local, Shared, Unknown}
-use Rattle.pz_state.specs.States.{StateView, set_variable, set_local}
+use Rattle.pz_copy.specs.pz_state.States.{StateView, set_variable, set_local}
 use Rattle.pz_copy.specs.Parcels.{ParcelView}
 use Rattle.pz_copy.specs.Unpacking.{unpacked, unpacked_values}
 

@@ -1,14 +1,14 @@
 //! Values that are bound to variables of a process. The only error is want of memory.
 
 ghost use Rattle.std.specs.Prelude.{◌≡◌, length, All, OnOk};
-ghost use Rattle.pz_state.specs.References.{RefersWithin};
-ghost use Rattle.pz_state.specs.Marks.{changed};
+ghost use Rattle.pz_copy.specs.pz_state.References.{RefersWithin};
+ghost use Rattle.pz_copy.specs.pz_state.Marks.{changed};
 ghost use Rattle.pz_eval_binding.specs.Binding.{set_slot, set_slots};
 
 use crate::writing::{write_local, write_variable};
 use pz_classes_code::Slot;
-use pz_state::{FrameId, State};
-use pz_value::Value;
+use pz_classes_code::pz_value::Value;
+use pz_copy::pz_state::{FrameId, State};
 use std::alloc::AllocError;
 use std::mem;
 

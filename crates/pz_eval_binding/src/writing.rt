@@ -1,12 +1,12 @@
 //! Single variables get values.
 
 ghost use Rattle.std.specs.Prelude.{◌≡◌, length, OnOk, OnErr};
-ghost use Rattle.pz_state.specs.Marks.{changed};
-ghost use Rattle.pz_state.specs.States.{set_variable, set_local};
-ghost use Rattle.pz_state.specs.References.{RefersWithin};
+ghost use Rattle.pz_copy.specs.pz_state.Marks.{changed};
+ghost use Rattle.pz_copy.specs.pz_state.States.{set_variable, set_local};
+ghost use Rattle.pz_copy.specs.pz_state.References.{RefersWithin};
 
-use pz_state::{FrameId, State};
-use pz_value::Value;
+use pz_classes_code::pz_value::Value;
+use pz_copy::pz_state::{FrameId, State};
 use std::alloc::AllocError;
 
 /// Gives a variable of the process a value, if it is there.

@@ -2,15 +2,15 @@
 use Rattle.std.proofs.Common.{◌≡◌, ℕ, List, ◌++◌, ◌∷◌, [], Result, Ok, Err, Bor, Option, Some, refl, sym, ap, ◌∙◌, subst}
 use Rattle.std.specs.Prelude.{All, IfOk, OnOk}
 use Rattle.std.specs.Option.{option_to_list}
-use Rattle.pz_syntax.specs.Classes.{ModelTree}
-use Rattle.pz_value.specs.declared.value.Value.{Value}
+use Rattle.pz_classes_code.specs.pz_syntax.Classes.{ModelTree}
+use Rattle.pz_classes_code.specs.pz_value.declared.value.Value.{Value}
 use Rattle.std.proofs.lemmas.List.Elements.{All-nil}
 use Rattle.pz_classes_code.specs.declared.code.Code.{Code}
 use Rattle.pz_classes_code.specs.CodeView.{view}
 use Rattle.pz_state.specs.States.{StateView}
-use Rattle.pz_eval_rules.specs.Memories.{Memory, Location, in_process, in_object}
-use Rattle.pz_eval_rules.specs.Outcomes.{outside}
-use Rattle.pz_eval_rules.specs.devices.Computed.{Reached, done, evaluated}
+use Rattle.pz_eval_operations.specs.pz_eval_rules.Memories.{Memory, Location, in_process, in_object}
+use Rattle.pz_eval_operations.specs.pz_eval_rules.Outcomes.{outside}
+use Rattle.pz_eval_operations.specs.pz_eval_rules.devices.Computed.{Reached, done, evaluated}
 use Rattle.pz_eval_operations.specs.declared.stop.Stop.{Stop}
 use Rattle.pz_eval_operations.specs.declared.task.Task.{Task}
 use Rattle.pz_eval_machine.specs.declared.control.Control.{Control}

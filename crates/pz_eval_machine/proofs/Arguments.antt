@@ -1,14 +1,14 @@
 -- How the arguments of a selector go on.
 use Rattle.std.proofs.Common.{◌≡◌, ℕ, ◌+◌, ◌<◌, List, [], ◌∷◌, ◌++◌, length, Result, Bor, Box, Global, refl, ap, ◌∙◌, subst, inl, inr, arith}
-use Rattle.pz_syntax.specs.Classes.{ModelTree}
-use Rattle.pz_value.specs.declared.value.Value.{Value}
+use Rattle.pz_classes_code.specs.pz_syntax.Classes.{ModelTree}
+use Rattle.pz_classes_code.specs.pz_value.declared.value.Value.{Value}
 use Rattle.pz_classes_code.specs.declared.code.Code.{Code}
 use Rattle.pz_classes_code.specs.CodeView.{view, list_view}
 use Rattle.pz_state.specs.States.{StateView}
-use Rattle.pz_eval_rules.specs.Memories.{Memory, Location}
-use Rattle.pz_eval_rules.specs.Answers.{gives}
-use Rattle.pz_eval_rules.specs.Steps.{Codes}
-use Rattle.pz_eval_rules.specs.devices.Computed.{Reached, done, Computation, and_then, arguments, evaluated}
+use Rattle.pz_eval_operations.specs.pz_eval_rules.Memories.{Memory, Location}
+use Rattle.pz_eval_operations.specs.pz_eval_rules.Answers.{gives}
+use Rattle.pz_eval_operations.specs.pz_eval_rules.Steps.{Codes}
+use Rattle.pz_eval_operations.specs.pz_eval_rules.devices.Computed.{Reached, done, Computation, and_then, arguments, evaluated}
 use Rattle.pz_eval_operations.specs.declared.stop.Stop.{Stop}
 use Rattle.pz_eval_operations.specs.declared.task.Request.{Request}
 use Rattle.pz_eval_operations.specs.declared.task.Task.{Task}

@@ -2,10 +2,10 @@
 use Rattle.std.proofs.Common.{◌≡◌, ℕ, suc, ◌<◌, ◌≤◌, Result, Ok, Err, refl, arith}
 use Rattle.std.specs.Prelude.{OnOk}
 use Rattle.pz_eval_operations.specs.declared.stop.Stop.{Stop}
-use Rattle.pz_value.specs.declared.value.Value.{Value}
-use Rattle.pz_eval_rules.specs.Memories.{Memory}
-use Rattle.pz_eval_rules.specs.Answers.{gives}
-use Rattle.pz_eval_rules.specs.devices.Computed.{done, Computation, and_then, tick}
+use Rattle.pz_classes_code.specs.pz_value.declared.value.Value.{Value}
+use Rattle.pz_eval_operations.specs.pz_eval_rules.Memories.{Memory}
+use Rattle.pz_eval_operations.specs.pz_eval_rules.Answers.{gives}
+use Rattle.pz_eval_operations.specs.pz_eval_rules.devices.Computed.{done, Computation, and_then, tick}
 
 module _ (x : Computation Value) (g : Value → Computation Value) (m : Memory) (next : Value → Computation Value) where
   pub found_on : (y : Value) (u u1 : ℕ) → x m u ≡ done (gives y m) u1 → and_then (g y m u1) next ≡ and_then (and_then (x m u) g) next

@@ -1,13 +1,13 @@
 -- What each form stands for, and what a step of its evaluation is.
 use Rattle.std.proofs.Common.{◌≡◌, ℕ, Bor, ◌-◌, ◌<◌, List, Option, refl, rules}
-use Rattle.pz_syntax.specs.declared.tokens.Pos.{Pos}
-use Rattle.pz_syntax.specs.declared.tokens.Symbol.{Symbol}
-use Rattle.pz_syntax.specs.declared.exprs.Literal.{Literal}
-use Rattle.pz_syntax.specs.Expressions.{clock, creation, group, sends, unary, assign, returned, choice, loop}
-use Rattle.pz_syntax.specs.Classes.{ModelTree}
-use Rattle.pz_value.specs.declared.value.ClassId.{ClassId}
-use Rattle.pz_value.specs.declared.value.Value.{Value}
-use Rattle.pz_value.specs.declared.value.Value.TheVariants.{Nil}
+use Rattle.pz_classes_code.specs.pz_syntax.declared.tokens.Pos.{Pos}
+use Rattle.pz_classes_code.specs.pz_syntax.declared.tokens.Symbol.{Symbol}
+use Rattle.pz_classes_code.specs.pz_syntax.declared.exprs.Literal.{Literal}
+use Rattle.pz_classes_code.specs.pz_syntax.Expressions.{clock, creation, group, sends, unary, assign, returned, choice, loop}
+use Rattle.pz_classes_code.specs.pz_syntax.Classes.{ModelTree}
+use Rattle.pz_classes_code.specs.pz_value.declared.value.ClassId.{ClassId}
+use Rattle.pz_classes_code.specs.pz_value.declared.value.Value.{Value}
+use Rattle.pz_classes_code.specs.pz_value.declared.value.Value.TheVariants.{Nil}
 use Rattle.pz_classes_code.specs.declared.slot.Slot.{Slot}
 use Rattle.pz_classes_code.specs.declared.code.Code.{Code}
 use Rattle.pz_classes_code.specs.declared.code.CodeForm.{CodeForm}
@@ -17,10 +17,10 @@ use Rattle.pz_classes_code.specs.declared.code.CodeLink.{CodeLink}
 use Rattle.pz_classes_code.specs.declared.code.CodeSending.{CodeSending}
 use Rattle.pz_classes_code.specs.CodeView.{Tree, view, form_view, list_view, part_view}
 use Rattle.pz_classes_code.specs.Literals.{constant}
-use Rattle.pz_eval_rules.specs.Memories.{Memory, Location, read, self_at}
-use Rattle.pz_eval_rules.specs.Answers.{gives}
-use Rattle.pz_eval_rules.specs.Steps.{time, created, truth, chosen}
-use Rattle.pz_eval_rules.specs.devices.Computed.{done, Computation, and_then, tick, tested, sequence, evaluated, step, spent}
+use Rattle.pz_eval_operations.specs.pz_eval_rules.Memories.{Memory, Location, read, self_at}
+use Rattle.pz_eval_operations.specs.pz_eval_rules.Answers.{gives}
+use Rattle.pz_eval_operations.specs.pz_eval_rules.Steps.{time, created, truth, chosen}
+use Rattle.pz_eval_operations.specs.pz_eval_rules.devices.Computed.{done, Computation, and_then, tick, tested, sequence, evaluated, step, spent}
 use Rattle.pz_eval_operations.specs.declared.task.Task.TheVariants as task
 use Rattle.pz_eval_operations.specs.devices.Views.{sendings_view}
 use Rattle.pz_eval_machine.specs.devices.Tasks.{turning, resumed}

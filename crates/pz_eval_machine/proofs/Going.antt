@@ -1,10 +1,10 @@
 -- What is to come in the method that runs.
 use Rattle.std.proofs.Common.{◌≡◌, ℕ, zero, suc, ◌-◌, ◌<◌, List, [], ◌∷◌, ◌++◌, Result, Ok, Err, refl, sym, ap, ◌∙◌, subst, arith}
-use Rattle.pz_syntax.specs.Classes.{ModelTree}
-use Rattle.pz_value.specs.declared.value.Value.{Value}
-use Rattle.pz_eval_rules.specs.Memories.{Memory, Location}
-use Rattle.pz_eval_rules.specs.Answers.{Answer, gives, stops}
-use Rattle.pz_eval_rules.specs.devices.Computed.{Reached, done, spent, Computation, follow, and_then, tick, evaluated, step}
+use Rattle.pz_classes_code.specs.pz_syntax.Classes.{ModelTree}
+use Rattle.pz_classes_code.specs.pz_value.declared.value.Value.{Value}
+use Rattle.pz_eval_operations.specs.pz_eval_rules.Memories.{Memory, Location}
+use Rattle.pz_eval_operations.specs.pz_eval_rules.Answers.{Answer, gives, stops}
+use Rattle.pz_eval_operations.specs.pz_eval_rules.devices.Computed.{Reached, done, spent, Computation, follow, and_then, tick, evaluated, step}
 use Rattle.pz_eval_operations.specs.declared.stop.Stop.{Stop}
 use Rattle.pz_eval_operations.specs.declared.stop.Stop.TheVariants as stop
 use Rattle.pz_eval_machine.specs.declared.control.Control.{Control}

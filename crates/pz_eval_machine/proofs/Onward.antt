@@ -1,11 +1,11 @@
 -- How lists, operators, selectors, arguments and turns go on.
 use Rattle.std.proofs.Common.{◌≡◌, ℕ, zero, suc, List, [], ◌∷◌, ◌++◌, length, Bool, true, false, Option, Some, None, Bor, Box, Global, refl, sym, ap, subst, arith, rules}
-use Rattle.pz_syntax.specs.declared.tokens.Pos.{Pos}
-use Rattle.pz_syntax.specs.Expressions.{Part}
-use Rattle.pz_syntax.specs.Classes.{ModelTree}
-use Rattle.pz_value.specs.declared.value.ClassId.{ClassId}
-use Rattle.pz_value.specs.declared.value.Value.{Value}
-use Rattle.pz_value.specs.declared.value.Value.TheVariants as value
+use Rattle.pz_classes_code.specs.pz_syntax.declared.tokens.Pos.{Pos}
+use Rattle.pz_classes_code.specs.pz_syntax.Expressions.{Part}
+use Rattle.pz_classes_code.specs.pz_syntax.Classes.{ModelTree}
+use Rattle.pz_classes_code.specs.pz_value.declared.value.ClassId.{ClassId}
+use Rattle.pz_classes_code.specs.pz_value.declared.value.Value.{Value}
+use Rattle.pz_classes_code.specs.pz_value.declared.value.Value.TheVariants as value
 use Rattle.pz_classes_code.specs.declared.slot.Slot.{Slot}
 use Rattle.pz_classes_code.specs.declared.code.Code.{Code}
 use Rattle.pz_classes_code.specs.declared.code.CodeLink.{CodeLink}
@@ -13,12 +13,12 @@ use Rattle.pz_classes_code.specs.declared.code.CodeSending.{CodeSending, out-Cod
 use Rattle.pz_classes_code.specs.declared.code.CodeForm.TheFolds.{the_lemmas}
 use Rattle.pz_classes_code.specs.CodeView.{Tree, view, list_view, part_view, sending_view}
 use Rattle.pz_state.specs.declared.fault.FaultKind.TheVariants.{NotBoolean}
-use Rattle.pz_eval_rules.specs.Memories.{Memory, Location}
-use Rattle.pz_eval_rules.specs.Answers.{fault, gives, stops}
-use Rattle.pz_eval_rules.specs.Steps.{Codes, truth, chosen, applied}
-use Rattle.pz_eval_rules.specs.Evaluation.{arguments_of}
-use Rattle.pz_eval_rules.specs.devices.Computed.{Reached, done, Computation, follow, and_then, tick, tested, sequence, arguments, operators, selectors, going, turns, evaluated}
-use Rattle.pz_eval_rules.specs.devices.Laws.{TurnsGoOn}
+use Rattle.pz_eval_operations.specs.pz_eval_rules.Memories.{Memory, Location}
+use Rattle.pz_eval_operations.specs.pz_eval_rules.Answers.{fault, gives, stops}
+use Rattle.pz_eval_operations.specs.pz_eval_rules.Steps.{Codes, truth, chosen, applied}
+use Rattle.pz_eval_operations.specs.pz_eval_rules.Evaluation.{arguments_of}
+use Rattle.pz_eval_operations.specs.pz_eval_rules.devices.Computed.{Reached, done, Computation, follow, and_then, tick, tested, sequence, arguments, operators, selectors, going, turns, evaluated}
+use Rattle.pz_eval_operations.specs.pz_eval_rules.devices.Laws.{TurnsGoOn}
 use Rattle.pz_eval_operations.specs.declared.task.Request.{Request}
 use Rattle.pz_eval_operations.specs.declared.task.Task.{Task}
 use Rattle.pz_eval_operations.specs.declared.task.Task.TheVariants as task

@@ -1,14 +1,14 @@
 -- What comes of a selector that is sent.
 use Rattle.std.proofs.Common.{◌≡◌, ℕ, List, Result, Ok, Err, refl, ap, subst}
-use Rattle.pz_syntax.specs.declared.tokens.Pos.{Pos}
-use Rattle.pz_syntax.specs.declared.names.Id.{Id}
-use Rattle.pz_syntax.specs.Classes.{ModelTree}
-use Rattle.pz_value.specs.declared.value.Value.{Value}
+use Rattle.pz_classes_code.specs.pz_syntax.declared.tokens.Pos.{Pos}
+use Rattle.pz_classes_code.specs.pz_syntax.declared.names.Id.{Id}
+use Rattle.pz_classes_code.specs.pz_syntax.Classes.{ModelTree}
+use Rattle.pz_classes_code.specs.pz_value.declared.value.Value.{Value}
 use Rattle.pz_state.specs.declared.fault.FaultKind.{FaultKind}
-use Rattle.pz_eval_rules.specs.Memories.{Memory}
-use Rattle.pz_eval_rules.specs.Answers.{fault, gives, stops}
-use Rattle.pz_eval_rules.specs.Steps.{Codes, Reply, answers, runs, reply}
-use Rattle.pz_eval_rules.specs.devices.Computed.{Reached, done, Computation, and_then, replied, evaluated}
+use Rattle.pz_eval_operations.specs.pz_eval_rules.Memories.{Memory}
+use Rattle.pz_eval_operations.specs.pz_eval_rules.Answers.{fault, gives, stops}
+use Rattle.pz_eval_operations.specs.pz_eval_rules.Steps.{Codes, Reply, answers, runs, reply}
+use Rattle.pz_eval_operations.specs.pz_eval_rules.devices.Computed.{Reached, done, Computation, and_then, replied, evaluated}
 use Rattle.pz_eval_operations.specs.declared.stop.Stop.{Stop}
 use Rattle.pz_eval_operations.specs.declared.stop.Stop.TheVariants as stop
 use Rattle.pz_eval_operations.specs.declared.replying.Method.{Method}

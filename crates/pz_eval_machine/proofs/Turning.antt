@@ -1,17 +1,17 @@
 -- Turns of a `while` that are done at once.
 use Rattle.std.proofs.Common.{◌≡◌, ℕ, ◌<◌, ◌≤◌, List, [], ◌∷◌, ◌++◌, length, true, Option, Some, None, Result, Ok, Err, Bor, refl, sym, ap, ◌∙◌, subst, arith}
 use Rattle.std.specs.Prelude.{OnOk}
-use Rattle.pz_syntax.specs.declared.tokens.Pos.{Pos}
-use Rattle.pz_syntax.specs.Expressions.{none, more}
-use Rattle.pz_syntax.specs.Classes.{ModelTree}
-use Rattle.pz_value.specs.declared.value.Value.{Value}
-use Rattle.pz_value.specs.declared.value.Value.TheVariants.{Nil}
+use Rattle.pz_classes_code.specs.pz_syntax.declared.tokens.Pos.{Pos}
+use Rattle.pz_classes_code.specs.pz_syntax.Expressions.{none, more}
+use Rattle.pz_classes_code.specs.pz_syntax.Classes.{ModelTree}
+use Rattle.pz_classes_code.specs.pz_value.declared.value.Value.{Value}
+use Rattle.pz_classes_code.specs.pz_value.declared.value.Value.TheVariants.{Nil}
 use Rattle.pz_classes_code.specs.declared.code.Code.{Code}
 use Rattle.pz_classes_code.specs.CodeView.{Tree, view, list_view}
-use Rattle.pz_eval_rules.specs.Memories.{Memory, Location}
-use Rattle.pz_eval_rules.specs.Steps.{Codes}
-use Rattle.pz_eval_rules.specs.devices.Computed.{Reached, Computation, and_then, sequence, going, evaluated}
-use Rattle.pz_eval_rules.specs.devices.Laws.{TurnsGoOn}
+use Rattle.pz_eval_operations.specs.pz_eval_rules.Memories.{Memory, Location}
+use Rattle.pz_eval_operations.specs.pz_eval_rules.Steps.{Codes}
+use Rattle.pz_eval_operations.specs.pz_eval_rules.devices.Computed.{Reached, Computation, and_then, sequence, going, evaluated}
+use Rattle.pz_eval_operations.specs.pz_eval_rules.devices.Laws.{TurnsGoOn}
 use Rattle.pz_eval_operations.specs.declared.stop.Stop.{Stop}
 use Rattle.pz_eval_operations.specs.declared.task.Task.{Task}
 use Rattle.pz_eval_operations.specs.declared.task.Task.TheVariants as task

@@ -1,17 +1,17 @@
 -- What callers make of what their methods come to.
 use Rattle.std.proofs.Common.{◌≡◌, ℕ, ◌-◌, List, [], ◌∷◌, ◌++◌, length, Bor, Result, Ok, Err, refl, sym, ap, ◌∙◌}
 use Rattle.std.specs.Prelude.{OnOk}
-use Rattle.pz_syntax.specs.declared.tokens.Pos.{Pos}
-use Rattle.pz_syntax.specs.Classes.{ModelTree}
-use Rattle.pz_value.specs.declared.value.Value.{Value}
-use Rattle.pz_value.specs.declared.value.Value.TheVariants.{Nil}
+use Rattle.pz_classes_code.specs.pz_syntax.declared.tokens.Pos.{Pos}
+use Rattle.pz_classes_code.specs.pz_syntax.Classes.{ModelTree}
+use Rattle.pz_classes_code.specs.pz_value.declared.value.Value.{Value}
+use Rattle.pz_classes_code.specs.pz_value.declared.value.Value.TheVariants.{Nil}
 use Rattle.pz_classes_code.specs.declared.code.CodeSending.{CodeSending}
 use Rattle.pz_state.specs.declared.fault.FaultKind.{FaultKind}
 use Rattle.pz_state.specs.States.{StateView, nils}
-use Rattle.pz_eval_rules.specs.Memories.{Memory, Location, in_object}
-use Rattle.pz_eval_rules.specs.Answers.{ends, fault, gives, stops, ended}
-use Rattle.pz_eval_rules.specs.Steps.{Codes, runs}
-use Rattle.pz_eval_rules.specs.devices.Computed.{Reached, done, spent, Computation, and_then, seen_by, tick, sequence, replied, selectors, evaluated}
+use Rattle.pz_eval_operations.specs.pz_eval_rules.Memories.{Memory, Location, in_object}
+use Rattle.pz_eval_operations.specs.pz_eval_rules.Answers.{ends, fault, gives, stops, ended}
+use Rattle.pz_eval_operations.specs.pz_eval_rules.Steps.{Codes, runs}
+use Rattle.pz_eval_operations.specs.pz_eval_rules.devices.Computed.{Reached, done, spent, Computation, and_then, seen_by, tick, sequence, replied, selectors, evaluated}
 use Rattle.pz_eval_operations.specs.declared.stop.Stop.{Stop}
 use Rattle.pz_eval_operations.specs.declared.stop.Stop.TheVariants as stop
 use Rattle.pz_eval_operations.specs.declared.task.Site.TheVariants.{Object}

@@ -3,10 +3,10 @@ use Rattle.std.proofs.Common.{◌≡◌, ℕ, suc, ◌+◌, ◌<◌, ◌≤◌, 
 use Rattle.std.specs.Prelude.{IfOk, OnOk}
 use Rattle.std.specs.List.{sum_by}
 use Rattle.std.proofs.lemmas.List.Sums.{sum_by_push}
-use Rattle.pz_syntax.specs.declared.tokens.Pos.{Pos}
-use Rattle.pz_syntax.specs.Expressions.{Part, left_out, written}
-use Rattle.pz_value.specs.declared.value.ClassId.{ClassId}
-use Rattle.pz_value.specs.declared.value.Value.{Value}
+use Rattle.pz_classes_code.specs.pz_syntax.declared.tokens.Pos.{Pos}
+use Rattle.pz_classes_code.specs.pz_syntax.Expressions.{Part, left_out, written}
+use Rattle.pz_classes_code.specs.pz_value.declared.value.ClassId.{ClassId}
+use Rattle.pz_classes_code.specs.pz_value.declared.value.Value.{Value}
 use Rattle.pz_classes_code.specs.declared.slot.Slot.{Slot}
 use Rattle.pz_classes_code.specs.declared.code.Code.{Code}
 use Rattle.pz_classes_code.specs.declared.code.CodeForm.{CodeForm}
@@ -14,8 +14,8 @@ use Rattle.pz_classes_code.specs.declared.code.CodeForm.TheVariants as form
 use Rattle.pz_classes_code.specs.declared.code.CodeLink.{CodeLink}
 use Rattle.pz_classes_code.specs.declared.code.CodeSending.{CodeSending, out-CodeSending}
 use Rattle.pz_classes_code.specs.CodeView.{view, form_view, list_view, part_view}
-use Rattle.pz_eval_rules.specs.Evaluation.{arguments_of}
-use Rattle.pz_eval_rules.specs.Steps.{Codes, chosen}
+use Rattle.pz_eval_operations.specs.pz_eval_rules.Evaluation.{arguments_of}
+use Rattle.pz_eval_operations.specs.pz_eval_rules.Steps.{Codes, chosen}
 use Rattle.pz_eval_operations.specs.declared.stop.Stop.{Stop}
 use Rattle.pz_eval_operations.specs.declared.task.Task.{Task}
 use Rattle.pz_eval_machine.specs.declared.control.Control.{Control}

@@ -1,4 +1,4 @@
-use pz_classes::Classes;
+use pz_eval_operations::pz_classes::Classes;
 use std::alloc::Global;
 
 /// What an evaluation stands on.

@@ -1,19 +1,19 @@
 //! How the evaluation of an expression begins, form by form.
 
 ghost use Rattle.std.specs.Prelude.{◌≡◌, ◌≤◌, ◌<◌, ◌+◌, ℕ, suc, List, length, IfOk, OnOk, All};
-ghost use Rattle.pz_syntax.specs.Classes.{ModelTree};
+ghost use Rattle.pz_classes_code.specs.pz_syntax.Classes.{ModelTree};
 ghost use Rattle.pz_classes_code.specs.CodeView.{view, form_view, list_view, part_view};
-ghost use Rattle.pz_value.specs.declared.value.Value.{Value as Values};
-ghost use Rattle.pz_value.specs.declared.value.Value.TheVariants.{Nil};
+ghost use Rattle.pz_classes_code.specs.pz_value.declared.value.Value.{Value as Values};
+ghost use Rattle.pz_classes_code.specs.pz_value.declared.value.Value.TheVariants.{Nil};
 ghost use Rattle.pz_state.specs.References.{RefersWithin};
-ghost use Rattle.pz_classes.specs.devices.Rows.{AreClasses};
+ghost use Rattle.pz_eval_operations.specs.pz_classes.devices.Rows.{AreClasses};
 ghost use Rattle.pz_classes_code.specs.Literals as literals;
-ghost use Rattle.pz_eval_rules.specs.Memories.{Memory, Location};
-ghost use Rattle.pz_eval_rules.specs.Memories as memories;
-ghost use Rattle.pz_eval_rules.specs.Answers.{ends, gives, stops};
-ghost use Rattle.pz_eval_rules.specs.Steps.{truth, chosen};
-ghost use Rattle.pz_eval_rules.specs.Steps as steps;
-ghost use Rattle.pz_eval_rules.specs.devices.Computed.{done, and_then, tick as ticked, tested, sequence, operators, selectors, step, evaluated};
+ghost use Rattle.pz_eval_operations.specs.pz_eval_rules.Memories.{Memory, Location};
+ghost use Rattle.pz_eval_operations.specs.pz_eval_rules.Memories as memories;
+ghost use Rattle.pz_eval_operations.specs.pz_eval_rules.Answers.{ends, gives, stops};
+ghost use Rattle.pz_eval_operations.specs.pz_eval_rules.Steps.{truth, chosen};
+ghost use Rattle.pz_eval_operations.specs.pz_eval_rules.Steps as steps;
+ghost use Rattle.pz_eval_operations.specs.pz_eval_rules.devices.Computed.{done, and_then, tick as ticked, tested, sequence, operators, selectors, step, evaluated};
 ghost use Rattle.pz_eval_operations.specs.declared.task.Task.{Task as Tasks};
 ghost use Rattle.pz_eval_operations.specs.devices.Sites.{place_of, memory_at, memory_of};
 ghost use Rattle.pz_eval_operations.specs.devices.Views.{links_view, sendings_view};
@@ -29,15 +29,15 @@ use crate::continuing::{descend, descend_counted, go_on_list, go_on_selectors};
 use crate::control::Control;
 use crate::operators::go_on_operators;
 use crate::resuming::assign;
-use pz_classes::Classes;
+use pz_classes_code::pz_items::Items;
+use pz_classes_code::pz_syntax::{Literal, Pos};
+use pz_classes_code::pz_value::{ClassId, Value};
 use pz_classes_code::{Code, CodeForm, CodeLink, CodeSending, Slot, constant};
+use pz_eval_operations::pz_classes::Classes;
 use pz_eval_operations::{
     Activation, Site, Stop, Task, at_once, create, read, self_at, tick, time,
 };
-use pz_items::Items;
 use pz_state::State;
-use pz_syntax::{Literal, Pos};
-use pz_value::{ClassId, Value};
 use std::alloc::Global;
 
 /// A constant counts one unit.

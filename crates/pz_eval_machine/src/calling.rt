@@ -1,12 +1,12 @@
 //! Methods begin, and go back to their callers.
 
 ghost use Rattle.std.specs.Prelude.{◌≡◌, ◌<◌, ◌≤◌, ◌-◌, ◌++◌, ◌∷◌, [], ℕ, length, false, IsTrue, IfOk, OnOk, All};
-ghost use Rattle.pz_syntax.specs.Classes.{ModelTree};
+ghost use Rattle.pz_classes_code.specs.pz_syntax.Classes.{ModelTree};
 ghost use Rattle.pz_classes_code.specs.CodeView.{list_view};
 ghost use Rattle.pz_state.specs.States.{StateView, nils};
-ghost use Rattle.pz_classes.specs.devices.Rows.{AreClasses};
-ghost use Rattle.pz_eval_rules.specs.Steps.{reply, runs};
-ghost use Rattle.pz_eval_rules.specs.devices.Computed.{and_then, replied, selectors, evaluated};
+ghost use Rattle.pz_eval_operations.specs.pz_classes.devices.Rows.{AreClasses};
+ghost use Rattle.pz_eval_operations.specs.pz_eval_rules.Steps.{reply, runs};
+ghost use Rattle.pz_eval_operations.specs.pz_eval_rules.devices.Computed.{and_then, replied, selectors, evaluated};
 ghost use Rattle.pz_eval_operations.specs.Known.{AreKnown};
 ghost use Rattle.pz_eval_operations.specs.devices.Sites.{place_of, memory_of};
 ghost use Rattle.pz_eval_operations.specs.devices.Views.{sendings_view};
@@ -19,9 +19,9 @@ ghost use Rattle.pz_eval_operations.specs.declared.task.Site.TheVariants.{Object
 use crate::basis::Basis;
 use crate::continuing::{add_task, go_on_list, go_on_selectors};
 use crate::control::Control;
+use pz_classes_code::pz_value::Value;
 use pz_eval_operations::{Activation, Method, Reply, Request, Site, Stop, Task, ask, tick};
 use pz_state::State;
-use pz_value::Value;
 use std::alloc::{AllocError, Global};
 use std::mem;
 

@@ -1,15 +1,15 @@
 //! What a test chooses.
 
 ghost use Rattle.std.specs.Prelude.{◌≡◌, ◌+◌, ◌<◌, ◌≤◌, ℕ, length, IfOk, OnOk, All};
-ghost use Rattle.pz_syntax.specs.Classes.{ModelTree};
+ghost use Rattle.pz_classes_code.specs.pz_syntax.Classes.{ModelTree};
 ghost use Rattle.pz_classes_code.specs.CodeView.{view, list_view, part_view};
-ghost use Rattle.pz_syntax.specs.declared.tokens.Pos.{Pos as Positions};
-ghost use Rattle.pz_value.specs.declared.value.Value.{Value as Values};
-ghost use Rattle.pz_value.specs.declared.value.Value.TheVariants.{Nil};
-ghost use Rattle.pz_eval_rules.specs.Steps.{truth, chosen};
-ghost use Rattle.pz_eval_rules.specs.Memories.{Memory, Location};
-ghost use Rattle.pz_eval_rules.specs.devices.Computed.{Computation, and_then, tick as ticked, tested, sequence, going, evaluated};
-ghost use Rattle.pz_eval_rules.specs.devices.Laws.{TurnsGoOn};
+ghost use Rattle.pz_classes_code.specs.pz_syntax.declared.tokens.Pos.{Pos as Positions};
+ghost use Rattle.pz_classes_code.specs.pz_value.declared.value.Value.{Value as Values};
+ghost use Rattle.pz_classes_code.specs.pz_value.declared.value.Value.TheVariants.{Nil};
+ghost use Rattle.pz_eval_operations.specs.pz_eval_rules.Steps.{truth, chosen};
+ghost use Rattle.pz_eval_operations.specs.pz_eval_rules.Memories.{Memory, Location};
+ghost use Rattle.pz_eval_operations.specs.pz_eval_rules.devices.Computed.{Computation, and_then, tick as ticked, tested, sequence, going, evaluated};
+ghost use Rattle.pz_eval_operations.specs.pz_eval_rules.devices.Laws.{TurnsGoOn};
 ghost use Rattle.pz_eval_operations.specs.devices.Sites.{place_of, memory_of};
 ghost use Rattle.pz_eval_machine.specs.devices.Tasks.{turning, pending, meant, coming, then_tasks};
 ghost use Rattle.pz_eval_machine.specs.devices.Steps.{Goes};
@@ -21,11 +21,11 @@ ghost use Rattle.pz_eval_machine.specs.devices.Weights.{list_weight, part_weight
 use crate::continuing::{add_task, descend, go_on_list, run_list};
 use crate::control::Control;
 use pz_classes_code::Code;
+use pz_classes_code::pz_items::Items;
+use pz_classes_code::pz_syntax::Pos;
+use pz_classes_code::pz_value::Value;
 use pz_eval_operations::{Activation, Stop, Task, assign_number, at_once, tick, truth_at_once};
-use pz_items::Items;
 use pz_state::{FaultKind, State};
-use pz_syntax::Pos;
-use pz_value::Value;
 use std::alloc::AllocError;
 
 /// The part of an `if` that is chosen.
@@ -269,7 +269,7 @@ pub(crate) fn go_on_turns<'a>(
         × ControlWithin (length state.new.held.objects) c) }
     ensures counted { OnOk result (units.new < units.old) }
 {
-    pz_eval_rules::laws::turns_go_on();
+    pz_eval_operations::pz_eval_rules::laws::turns_go_on();
     let found = quick_turns(state, units, activation, depth, test, body)?;
     match found {
         Some(left) => {

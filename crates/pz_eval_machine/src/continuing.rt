@@ -2,12 +2,12 @@
 //! done next; what can be evaluated at once is evaluated on the way.
 
 ghost use Rattle.std.specs.Prelude.{◌≡◌, ◌+◌, ◌<◌, ◌≤◌, ℕ, [], ◌∷◌, ◌++◌, length, IfOk, OnOk, All};
-ghost use Rattle.pz_syntax.specs.Classes.{ModelTree};
+ghost use Rattle.pz_classes_code.specs.pz_syntax.Classes.{ModelTree};
 ghost use Rattle.pz_classes_code.specs.CodeView.{view, list_view, part_view};
 ghost use Rattle.pz_state.specs.References.{RefersWithin};
-ghost use Rattle.pz_eval_rules.specs.Memories.{Memory, Location};
-ghost use Rattle.pz_eval_rules.specs.Evaluation.{arguments_of};
-ghost use Rattle.pz_eval_rules.specs.devices.Computed.{and_then, tick as ticked, sequence, arguments, selectors, evaluated};
+ghost use Rattle.pz_eval_operations.specs.pz_eval_rules.Memories.{Memory, Location};
+ghost use Rattle.pz_eval_operations.specs.pz_eval_rules.Evaluation.{arguments_of};
+ghost use Rattle.pz_eval_operations.specs.pz_eval_rules.devices.Computed.{and_then, tick as ticked, sequence, arguments, selectors, evaluated};
 ghost use Rattle.pz_eval_operations.specs.devices.Sites.{place_of, memory_of};
 ghost use Rattle.pz_eval_operations.specs.devices.Views.{sendings_view};
 ghost use Rattle.pz_eval_machine.specs.devices.Tasks.{sent, resumed, pending, meant, coming, then_tasks};
@@ -17,11 +17,11 @@ ghost use Rattle.pz_eval_machine.specs.devices.Within.{ControlWithin};
 ghost use Rattle.pz_eval_machine.specs.devices.Weights.{weight, list_weight, sendings_weight, task_weight, tasks_weight, load, NoMore};
 
 use crate::control::Control;
+use pz_classes_code::pz_items::Items;
+use pz_classes_code::pz_value::Value;
 use pz_classes_code::{Code, CodeSending};
 use pz_eval_operations::{Activation, Request, Stop, Task, assign_at_once, at_once, tick};
-use pz_items::Items;
 use pz_state::State;
-use pz_value::Value;
 use std::alloc::{AllocError, Global};
 
 /// A task is left to do, before those that are. The only error is want of memory.

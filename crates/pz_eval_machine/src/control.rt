@@ -1,8 +1,8 @@
 //! What is done next, and with what an evaluation ends.
 
 use pz_classes_code::Code;
+use pz_classes_code::pz_value::Value;
 use pz_eval_operations::Request;
-use pz_value::Value;
 
 /// What is done next.
 #[derive(Drop)]

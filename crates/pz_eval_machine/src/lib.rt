@@ -15,3 +15,5 @@ mod resuming;
 pub use basis::Basis;
 pub use control::Finish;
 pub use machine::evaluate;
+pub use pz_eval_operations;
+pub use pz_eval_operations::{pz_classes, pz_eval_rules};

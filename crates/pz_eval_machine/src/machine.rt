@@ -2,15 +2,15 @@
 //! methods that run, so that neither expressions nor calls are followed by calls of this code.
 
 ghost use Rattle.std.specs.Prelude.{◌≡◌, ◌≤◌, ◌<◌, ℕ, [], length, IfOk, OnOk, All};
-ghost use Rattle.pz_syntax.specs.Classes.{ModelTree};
+ghost use Rattle.pz_classes_code.specs.pz_syntax.Classes.{ModelTree};
 ghost use Rattle.pz_classes_code.specs.CodeView.{view};
 ghost use Rattle.pz_state.specs.States.{StateView};
 ghost use Rattle.pz_state.specs.References.{RefersWithin};
-ghost use Rattle.pz_classes.specs.devices.Rows.{AreClasses};
-ghost use Rattle.pz_eval_rules.specs.Memories.{in_process};
-ghost use Rattle.pz_eval_rules.specs.Outcomes.{outside};
-ghost use Rattle.pz_eval_rules.specs.Answers.{ends, gives, stops};
-ghost use Rattle.pz_eval_rules.specs.devices.Computed.{done, evaluated};
+ghost use Rattle.pz_eval_operations.specs.pz_classes.devices.Rows.{AreClasses};
+ghost use Rattle.pz_eval_operations.specs.pz_eval_rules.Memories.{in_process};
+ghost use Rattle.pz_eval_operations.specs.pz_eval_rules.Outcomes.{outside};
+ghost use Rattle.pz_eval_operations.specs.pz_eval_rules.Answers.{ends, gives, stops};
+ghost use Rattle.pz_eval_operations.specs.pz_eval_rules.devices.Computed.{done, evaluated};
 ghost use Rattle.pz_eval_operations.specs.Known.{AreKnown};
 ghost use Rattle.pz_eval_operations.specs.devices.Sites.{place_of, memory_of};
 ghost use Rattle.pz_eval_machine.specs.devices.Tasks.{unwound, coming, to_come};
@@ -25,9 +25,9 @@ use crate::calling::{leave, send};
 use crate::control::{Control, Finish, Progress};
 use crate::resuming::resume;
 use pz_classes_code::Code;
+use pz_classes_code::pz_value::Value;
 use pz_eval_operations::{Activation, Site, Stop};
 use pz_state::{FrameId, State};
-use pz_value::Value;
 
 /// A value of a method that runs goes to its caller; where there is none, the evaluation is over.
 fn give_back<'a>(

@@ -1,12 +1,12 @@
 //! How operators go on.
 
 ghost use Rattle.std.specs.Prelude.{◌≡◌, ◌+◌, ◌<◌, ℕ, List, length, IfOk, OnOk, All};
-ghost use Rattle.pz_syntax.specs.Classes.{ModelTree};
-ghost use Rattle.pz_value.specs.declared.value.Value.{Value as Values};
+ghost use Rattle.pz_classes_code.specs.pz_syntax.Classes.{ModelTree};
+ghost use Rattle.pz_classes_code.specs.pz_value.declared.value.Value.{Value as Values};
 ghost use Rattle.pz_state.specs.References.{RefersWithin};
-ghost use Rattle.pz_eval_rules.specs.Memories.{Memory, Location};
-ghost use Rattle.pz_eval_rules.specs.Steps.{applied};
-ghost use Rattle.pz_eval_rules.specs.devices.Computed.{and_then, follow, tick as ticked, operators, evaluated};
+ghost use Rattle.pz_eval_operations.specs.pz_eval_rules.Memories.{Memory, Location};
+ghost use Rattle.pz_eval_operations.specs.pz_eval_rules.Steps.{applied};
+ghost use Rattle.pz_eval_operations.specs.pz_eval_rules.devices.Computed.{and_then, follow, tick as ticked, operators, evaluated};
 ghost use Rattle.pz_eval_operations.specs.devices.Sites.{place_of, memory_of};
 ghost use Rattle.pz_eval_operations.specs.devices.Views.{links_view};
 ghost use Rattle.pz_eval_machine.specs.devices.Tasks.{pending, meant, coming, then_tasks};
@@ -18,9 +18,9 @@ ghost use Rattle.pz_eval_machine.specs.devices.Weights.{links_weight, tasks_weig
 use crate::continuing::{add_task, descend};
 use crate::control::Control;
 use pz_classes_code::CodeLink;
+use pz_classes_code::pz_value::Value;
 use pz_eval_operations::{Activation, Stop, Task, apply_counted, at_once};
 use pz_state::State;
-use pz_value::Value;
 use std::alloc::Global;
 
 /// The operators behind one that gave this value are left to do.

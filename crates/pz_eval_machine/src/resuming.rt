@@ -1,15 +1,15 @@
 //! How tasks are resumed with a value.
 
 ghost use Rattle.std.specs.Prelude.{◌≡◌, ◌+◌, ℕ, List, [], ◌∷◌, ◌++◌, length, IfOk};
-ghost use Rattle.pz_syntax.specs.Classes.{ModelTree};
+ghost use Rattle.pz_classes_code.specs.pz_syntax.Classes.{ModelTree};
 ghost use Rattle.pz_classes_code.specs.CodeView.{list_view};
-ghost use Rattle.pz_value.specs.declared.value.Value.{Value as Values};
+ghost use Rattle.pz_classes_code.specs.pz_value.declared.value.Value.{Value as Values};
 ghost use Rattle.pz_state.specs.References.{RefersWithin};
-ghost use Rattle.pz_eval_rules.specs.Memories.{Location};
-ghost use Rattle.pz_eval_rules.specs.Memories as memories;
-ghost use Rattle.pz_eval_rules.specs.Answers.{gives};
-ghost use Rattle.pz_eval_rules.specs.Steps as steps;
-ghost use Rattle.pz_eval_rules.specs.devices.Computed.{done, and_then, arguments, evaluated};
+ghost use Rattle.pz_eval_operations.specs.pz_eval_rules.Memories.{Location};
+ghost use Rattle.pz_eval_operations.specs.pz_eval_rules.Memories as memories;
+ghost use Rattle.pz_eval_operations.specs.pz_eval_rules.Answers.{gives};
+ghost use Rattle.pz_eval_operations.specs.pz_eval_rules.Steps as steps;
+ghost use Rattle.pz_eval_operations.specs.pz_eval_rules.devices.Computed.{done, and_then, arguments, evaluated};
 ghost use Rattle.pz_eval_operations.specs.declared.task.Task.{Task as Tasks};
 ghost use Rattle.pz_eval_operations.specs.devices.Sites.{place_of, memory_of};
 ghost use Rattle.pz_eval_operations.specs.devices.Views.{sendings_view};
@@ -25,11 +25,11 @@ use crate::choosing::{choose, go_on_turns, turn_or_end};
 use crate::continuing::{add_argument, go_on_arguments, go_on_selectors, run_list};
 use crate::control::Control;
 use crate::operators::{go_on_operators, operate};
+use pz_classes_code::pz_syntax::{Pos, Symbol};
+use pz_classes_code::pz_value::Value;
 use pz_classes_code::{Code, Slot};
 use pz_eval_operations::{Activation, Request, Stop, Task, apply, copy, write};
 use pz_state::State;
-use pz_syntax::{Pos, Symbol};
-use pz_value::Value;
 use std::alloc::Global;
 
 /// An operator before a value is applied.

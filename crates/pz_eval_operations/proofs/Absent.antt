@@ -1,16 +1,16 @@
 -- A write to what is not there changes nothing; no write makes or removes an object; a new object.
 use Rattle.std.proofs.Common.{◌≡◌, ℕ, zero, suc, ◌<◌, ◌≤◌, List, [], ◌∷◌, length, lt-ltb, Some, Result, Ok, Err, refl, sym, ap, ◌∙◌, arith}
 use Rattle.std.specs.Prelude.{OnOk, OnErr, slice_set}
-use Rattle.pz_syntax.specs.declared.tokens.Pos.{Pos}
-use Rattle.pz_syntax.specs.Classes.{ModelTree}
-use Rattle.pz_value.specs.declared.value.ClassId.{ClassId}
-use Rattle.pz_value.specs.declared.value.Value.{Value}
-use Rattle.pz_value.specs.declared.value.Value.TheVariants.{Ref}
+use Rattle.pz_classes_code.specs.pz_syntax.declared.tokens.Pos.{Pos}
+use Rattle.pz_classes_code.specs.pz_syntax.Classes.{ModelTree}
+use Rattle.pz_classes_code.specs.pz_value.declared.value.ClassId.{ClassId}
+use Rattle.pz_classes_code.specs.pz_value.declared.value.Value.{Value}
+use Rattle.pz_classes_code.specs.pz_value.declared.value.Value.TheVariants.{Ref}
 use Rattle.pz_state.specs.Objects.{ObjectView}
 use Rattle.pz_state.specs.States.{StateView, at_object, object, made, set_item}
 use Rattle.pz_state.specs.States.{object_limit}
 use Rattle.pz_state.specs.Marks.{Seen, changed}
-use Rattle.pz_classes.specs.Members.{fields}
+use Rattle.pz_classes.specs.pz_classes_rules.Members.{fields}
 use Rattle.pz_eval_rules.specs.Answers.{gives}
 use Rattle.pz_eval_rules.specs.Steps.{created}
 

@@ -1,6 +1,6 @@
 -- Units that are counted.
 use Rattle.std.proofs.Common.{◌≡◌, ℕ, suc, ◌<◌, Result, Ok, Err, arith}
-use Rattle.pz_value.specs.declared.value.Value.{Value}
+use Rattle.pz_classes_code.specs.pz_value.declared.value.Value.{Value}
 use Rattle.pz_eval_rules.specs.Memories.{Memory}
 use Rattle.pz_eval_rules.specs.Answers.{Answer}
 use Rattle.pz_eval_operations.specs.declared.stop.Stop.{Stop}

@@ -1,8 +1,8 @@
 -- What constants, variables, `self`, operators and assignments stand for.
 use Rattle.std.proofs.Common.{◌≡◌, List, rules}
-use Rattle.pz_syntax.specs.declared.tokens.Pos.{Pos}
-use Rattle.pz_syntax.specs.declared.exprs.Literal.{Literal}
-use Rattle.pz_syntax.specs.Expressions.{literal, variable, me, chain, assign}
+use Rattle.pz_classes_code.specs.pz_syntax.declared.tokens.Pos.{Pos}
+use Rattle.pz_classes_code.specs.pz_syntax.declared.exprs.Literal.{Literal}
+use Rattle.pz_classes_code.specs.pz_syntax.Expressions.{literal, variable, me, chain, assign}
 use Rattle.pz_classes_code.specs.declared.slot.Slot.{Slot}
 use Rattle.pz_classes_code.specs.declared.code.Code.{Code}
 use Rattle.pz_classes_code.specs.declared.code.CodeForm.TheVariants as form

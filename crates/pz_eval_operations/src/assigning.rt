@@ -2,7 +2,7 @@
 
 ghost use Rattle.std.specs.Prelude.{◌≡◌, length, option_map, IfOk, OnOk, IfSome};
 ghost use Rattle.pz_classes_code.specs.CodeView.{view};
-ghost use Rattle.pz_value.specs.declared.value.Value.TheVariants.{Int};
+ghost use Rattle.pz_classes_code.specs.pz_value.declared.value.Value.TheVariants.{Int};
 ghost use Rattle.pz_state.specs.References.{RefersWithin};
 ghost use Rattle.pz_eval_rules.specs.Memories as memories;
 ghost use Rattle.pz_eval_operations.specs.devices.Sites.{place_of, memory_of};
@@ -13,9 +13,9 @@ use crate::attempts::{at_once, number_at_once};
 use crate::reading::copy;
 use crate::task::Activation;
 use crate::writing::write;
+use pz_classes_code::pz_value::Value;
 use pz_classes_code::{Code, CodeForm, Slot};
 use pz_state::State;
-use pz_value::Value;
 use std::alloc::AllocError;
 
 /// A variable gets a value, which is that of the assignment. The only error is want of memory.

@@ -2,11 +2,11 @@
 //! and an operator between two numbers that are constants or variables.
 
 ghost use Rattle.std.specs.Prelude.{◌≡◌, ◌<◌, ℕ, length, option_map, IfSome};
-ghost use Rattle.pz_syntax.specs.declared.tokens.Pos.{Pos};
-ghost use Rattle.pz_syntax.specs.Expressions.{chain};
+ghost use Rattle.pz_classes_code.specs.pz_syntax.declared.tokens.Pos.{Pos};
+ghost use Rattle.pz_classes_code.specs.pz_syntax.Expressions.{chain};
 ghost use Rattle.pz_classes_code.specs.CodeView.{view};
-ghost use Rattle.pz_value.specs.declared.value.Value.{Value as Values};
-ghost use Rattle.pz_value.specs.declared.value.Value.TheVariants.{Bool as Boolean, Int};
+ghost use Rattle.pz_classes_code.specs.pz_value.declared.value.Value.{Value as Values};
+ghost use Rattle.pz_classes_code.specs.pz_value.declared.value.Value.TheVariants.{Bool as Boolean, Int};
 ghost use Rattle.pz_state.specs.References.{RefersWithin};
 ghost use Rattle.pz_classes_code.specs.Literals as literals;
 ghost use Rattle.pz_eval_rules.specs.Memories.{Memory};
@@ -21,10 +21,10 @@ ghost use Rattle.pz_eval_operations.specs.devices.Within.{SiteWithin, Activation
 use crate::operating::{between_numbers, number_between, truth_between};
 use crate::reading::{held, plain_constant, plain_copy};
 use crate::task::{Activation, Site};
+use pz_classes_code::pz_syntax::{Literal, Symbol};
+use pz_classes_code::pz_value::Value;
 use pz_classes_code::{Code, CodeForm, CodeLink, Slot};
 use pz_state::State;
-use pz_syntax::{Literal, Symbol};
-use pz_value::Value;
 
 /// What a variable holds, if it is no text; nil if there is none.
 fn plain_variable(state: &State, activation: &Activation<'_>, slot: Slot) -> Option<Value>

@@ -2,20 +2,20 @@
 
 ghost use Rattle.std.specs.Prelude.{◌≡◌, ◌≤◌, List, ℕ, length, map, IfOk};
 ghost use Rattle.std.specs.Option.{option_map};
-ghost use Rattle.pz_syntax.specs.Classes.{ModelTree};
-ghost use Rattle.pz_value.specs.declared.value.Value.{Value};
+ghost use Rattle.pz_classes_code.specs.pz_syntax.Classes.{ModelTree};
+ghost use Rattle.pz_classes_code.specs.pz_value.declared.value.Value.{Value};
 ghost use Rattle.pz_state.specs.References.{RefersWithin};
 ghost use Rattle.pz_classes.specs.devices.Rows.{AreClasses};
-ghost use Rattle.pz_classes.specs.Members.{fields};
+ghost use Rattle.pz_classes.specs.pz_classes_rules.Members.{fields};
 ghost use Rattle.pz_eval_rules.specs.Memories.{Memory};
 ghost use Rattle.pz_eval_rules.specs.Steps as steps;
 ghost use Rattle.pz_eval_operations.specs.devices.Telling.{Tells};
 
 use crate::stop::Stop;
 use pz_classes::Classes;
+use pz_classes_code::pz_syntax::Pos;
+use pz_classes_code::pz_value::{ClassId, Value};
 use pz_state::{FaultKind, MakeError, OBJECT_LIMIT, State};
-use pz_syntax::Pos;
-use pz_value::{ClassId, Value};
 
 /// The clock as a value, as long as an Integer holds it.
 pub fn time(clock: u128, at: Pos) -> Result<Value, Stop>

@@ -18,6 +18,8 @@ pub use assigning::{assign_at_once, assign_number};
 pub use attempts::{at_once, self_at, truth_at_once};
 pub use creating::{create, time};
 pub use operating::{apply, apply_counted};
+pub use pz_classes;
+pub use pz_eval_rules;
 pub use reading::{copy, read};
 pub use replying::{Method, Reply, ask};
 pub use stop::Stop;

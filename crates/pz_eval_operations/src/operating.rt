@@ -1,9 +1,9 @@
 //! Operators between values, and before one.
 
 ghost use Rattle.std.specs.Prelude.{◌≡◌, ◌<◌, ℕ, List, length, option_map, All, IfOk, OnOk, IfSome};
-ghost use Rattle.pz_syntax.specs.declared.tokens.Pos.{Pos as Positions};
-ghost use Rattle.pz_value.specs.declared.value.Value.TheVariants.{Bool as Boolean, Int};
-ghost use Rattle.pz_value.specs.declared.value.Value.{Value};
+ghost use Rattle.pz_classes_code.specs.pz_syntax.declared.tokens.Pos.{Pos as Positions};
+ghost use Rattle.pz_classes_code.specs.pz_value.declared.value.Value.TheVariants.{Bool as Boolean, Int};
+ghost use Rattle.pz_classes_code.specs.pz_value.declared.value.Value.{Value};
 ghost use Rattle.pz_state.specs.References.{RefersWithin};
 ghost use Rattle.pz_prims.specs.Table.{outcome};
 ghost use Rattle.pz_eval_rules.specs.Memories.{Memory};
@@ -14,10 +14,10 @@ ghost use Rattle.pz_eval_operations.specs.devices.Telling.{Tells, Counts};
 
 use crate::stop::Stop;
 use crate::units::tick;
+use pz_classes_code::pz_syntax::{Pos, Symbol};
+use pz_classes_code::pz_value::Value;
 use pz_prims::{Prim, prim};
 use pz_state::{FaultKind, State};
-use pz_syntax::{Pos, Symbol};
-use pz_value::Value;
 use std::alloc::Global;
 
 /// An operator as a selector.

@@ -2,7 +2,7 @@
 
 ghost use Rattle.std.specs.Prelude.{◌≡◌, length, unwrap_or, IfOk, IfSome, All};
 ghost use Rattle.std.specs.Option.{option_copied};
-ghost use Rattle.pz_value.specs.declared.value.Value.TheVariants.{Nil};
+ghost use Rattle.pz_classes_code.specs.pz_value.declared.value.Value.TheVariants.{Nil};
 ghost use Rattle.pz_classes_code.specs.Literals as literals;
 ghost use Rattle.pz_state.specs.States.{variable, local, item};
 ghost use Rattle.pz_state.specs.References.{RefersWithin};
@@ -11,9 +11,9 @@ ghost use Rattle.pz_eval_operations.specs.devices.Sites.{place_of, memory_at};
 
 use crate::task::Site;
 use pz_classes_code::Slot;
+use pz_classes_code::pz_syntax::Literal;
+use pz_classes_code::pz_value::Value;
 use pz_state::{FrameId, State};
-use pz_syntax::Literal;
-use pz_value::Value;
 use std::alloc::{AllocError, Global};
 
 /// The value of a constant, if it is no text.

@@ -2,8 +2,8 @@
 
 ghost use Rattle.std.specs.Prelude.{◌≡◌, ◌≤◌, ℕ, List, length, IfOk, All};
 ghost use Rattle.std.specs.Option.{option_map};
-ghost use Rattle.pz_syntax.specs.Classes.{ModelTree};
-ghost use Rattle.pz_value.specs.declared.value.Value.{Value};
+ghost use Rattle.pz_classes_code.specs.pz_syntax.Classes.{ModelTree};
+ghost use Rattle.pz_classes_code.specs.pz_value.declared.value.Value.{Value};
 ghost use Rattle.pz_classes_code.specs.CodeView.{list_view};
 ghost use Rattle.pz_state.specs.References.{RefersWithin};
 ghost use Rattle.pz_classes.specs.devices.Rows.{AreClasses};
@@ -15,11 +15,11 @@ ghost use Rattle.pz_eval_operations.specs.devices.Within.{RequestWithin};
 use crate::stop::Stop;
 use crate::task::Request;
 use pz_classes::Classes;
+use pz_classes_code::pz_syntax::Id;
+use pz_classes_code::pz_value::{ClassId, Value};
 use pz_classes_code::{Body, Code};
 use pz_prims::{Prim, prim};
 use pz_state::{FaultKind, State};
-use pz_syntax::Id;
-use pz_value::{ClassId, Value};
 use std::alloc::Global;
 
 /// The body of a data method: how many locals it has, and its code.

@@ -1,5 +1,5 @@
+use pz_classes_code::pz_syntax::Pos;
 use pz_state::FaultKind;
-use pz_syntax::Pos;
 use std::alloc::{AllocError, AllocFailed};
 
 /// Why an evaluation has no value.

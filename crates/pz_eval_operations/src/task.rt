@@ -1,10 +1,10 @@
 //! What is left to do. A `depth` says how deep the expressions that follow may stand.
 
+use pz_classes_code::pz_items::Items;
+use pz_classes_code::pz_syntax::{Id, Pos, Symbol};
+use pz_classes_code::pz_value::Value;
 use pz_classes_code::{Code, CodeLink, CodeSending, Slot};
-use pz_items::Items;
 use pz_state::FrameId;
-use pz_syntax::{Id, Pos, Symbol};
-use pz_value::Value;
 
 /// Where an expression stands: in a method of the process, whose locals are those of this frame, or in
 /// a data method of the object with this number.

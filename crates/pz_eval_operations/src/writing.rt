@@ -9,9 +9,9 @@ ghost use Rattle.pz_eval_operations.specs.devices.Sites.{place_of, memory_at};
 
 use crate::task::Site;
 use pz_classes_code::Slot;
+use pz_classes_code::pz_value::Value;
 use pz_eval_binding::{write_local, write_variable};
 use pz_state::State;
-use pz_value::Value;
 use std::alloc::AllocError;
 
 /// Gives a field of an object a value, if it is there.

@@ -1,21 +1,21 @@
 -- In a model whose bodies fit, no data method names the clock.
 use Rattle.std.proofs.Common.{◌≡◌, ℕ, Bool, true, false, ◌||◌, List, length, Option, Some, None, refl, ap, sym, ◌∙◌}
 use Rattle.std.specs.Option.{option_and_then}
-use Rattle.pz_syntax.specs.declared.names.Id.{Id}
-use Rattle.pz_syntax.specs.Expressions.{Expression, Expressions, Part, Links, Sendings, literal, variable, me, clock, creation, group, chain, sends, unary, assign, returned, choice, loop, none, more, left_out, written, no_links, link, no_sendings, sending}
-use Rattle.pz_syntax.specs.Classes.{ModelTree}
-use Rattle.pz_value.specs.declared.value.ClassId.{ClassId}
-use Rattle.pz_value.specs.declared.value.Value.{Value}
-use Rattle.pz_value.specs.declared.value.Value.TheVariants as value
-use Rattle.pz_classes_code.specs.declared.slot.Slot.{Slot}
+use Rattle.pz_classes_rules.specs.pz_syntax.declared.names.Id.{Id}
+use Rattle.pz_classes_rules.specs.pz_syntax.Expressions.{Expression, Expressions, Part, Links, Sendings, literal, variable, me, clock, creation, group, chain, sends, unary, assign, returned, choice, loop, none, more, left_out, written, no_links, link, no_sendings, sending}
+use Rattle.pz_classes_rules.specs.pz_syntax.Classes.{ModelTree}
+use Rattle.pz_state.specs.pz_value.declared.value.ClassId.{ClassId}
+use Rattle.pz_state.specs.pz_value.declared.value.Value.{Value}
+use Rattle.pz_state.specs.pz_value.declared.value.Value.TheVariants as value
+use Rattle.pz_classes_rules.specs.pz_classes_code.declared.slot.Slot.{Slot}
 use Rattle.pz_prims.specs.declared.answer.Prim.{Prim}
 use Rattle.pz_prims.specs.declared.answer.Prim.TheVariants as prim
 use Rattle.pz_state.specs.States.{object}
-use Rattle.pz_classes.specs.Bodies.{BodyTree, data_body, process_body}
-use Rattle.pz_classes.specs.declared.method_id.Counts.TheVariants.{Data}
-use Rattle.pz_classes.specs.MethodBodies.{method_body}
-use Rattle.pz_classes.specs.FitBodies.{data_code, process_code, ExpressionFits, ExpressionsFit, PartFits, LinksFit, SendingsFit, BodyFits}
-use Rattle.pz_classes.specs.SoundBodies.{BodiesFit}
+use Rattle.pz_classes_rules.specs.Bodies.{BodyTree, data_body, process_body}
+use Rattle.pz_classes_rules.specs.declared.method_id.Counts.TheVariants.{Data}
+use Rattle.pz_classes_rules.specs.MethodBodies.{method_body}
+use Rattle.pz_classes_rules.specs.FitBodies.{data_code, process_code, ExpressionFits, ExpressionsFit, PartFits, LinksFit, SendingsFit, BodyFits}
+use Rattle.pz_classes_rules.specs.SoundBodies.{BodiesFit}
 use Rattle.pz_eval_rules.specs.Memories.{Memory}
 use Rattle.pz_eval_rules.specs.Steps.{Codes, Reply, answers, runs, reply, reply_by, class_reply, method_reply, data_method, data_part}
 use Rattle.pz_eval_rules.specs.Clocks.{names_clock, list_names_clock, part_names_clock, links_name_clock, sendings_name_clock, DataIsTimeless}

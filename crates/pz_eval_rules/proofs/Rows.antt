@@ -1,15 +1,15 @@
 -- Worked expressions.
 use Rattle.std.proofs.Common.{◌≡◌, ℕ, pos, List, [], ◌∷◌, Some, None, codes, refl}
-use Rattle.pz_syntax.specs.declared.tokens.Pos.{Pos}
-use Rattle.pz_syntax.specs.declared.tokens.Symbol.TheVariants.{Plus, Minus, Star, Slash, Less, Equal, Ampersand}
-use Rattle.pz_syntax.specs.declared.exprs.Literal.TheVariants as literal
-use Rattle.pz_syntax.specs.Expressions.{Expression, variable, me, clock, creation, group, chain, sends, unary, assign, returned, choice, loop, Expressions, none, more, Part, left_out, written, Links, no_links, link, Sendings, no_sendings, sending}
-use Rattle.pz_syntax.specs.Expressions as expression
-use Rattle.pz_syntax.specs.declared.names.Id.{Id}
-use Rattle.pz_syntax.specs.Classes.{DataMethodTree, ModelTree, data_class}
-use Rattle.pz_value.specs.declared.value.Value.TheVariants as value
-use Rattle.pz_classes_code.specs.declared.slot.Slot.TheVariants.{Shared}
-use Rattle.pz_classes_code.specs.CodeView.{Tree}
+use Rattle.pz_classes_rules.specs.pz_syntax.declared.tokens.Pos.{Pos}
+use Rattle.pz_classes_rules.specs.pz_syntax.declared.tokens.Symbol.TheVariants.{Plus, Minus, Star, Slash, Less, Equal, Ampersand}
+use Rattle.pz_classes_rules.specs.pz_syntax.declared.exprs.Literal.TheVariants as literal
+use Rattle.pz_classes_rules.specs.pz_syntax.Expressions.{Expression, variable, me, clock, creation, group, chain, sends, unary, assign, returned, choice, loop, Expressions, none, more, Part, left_out, written, Links, no_links, link, Sendings, no_sendings, sending}
+use Rattle.pz_classes_rules.specs.pz_syntax.Expressions as expression
+use Rattle.pz_classes_rules.specs.pz_syntax.declared.names.Id.{Id}
+use Rattle.pz_classes_rules.specs.pz_syntax.Classes.{DataMethodTree, ModelTree, data_class}
+use Rattle.pz_state.specs.pz_value.declared.value.Value.TheVariants as value
+use Rattle.pz_classes_rules.specs.pz_classes_code.declared.slot.Slot.TheVariants.{Shared}
+use Rattle.pz_classes_rules.specs.pz_classes_code.CodeView.{Tree}
 use Rattle.pz_state.specs.declared.fault.FaultKind.TheVariants.{DivideByZero, NotUnderstood, NotBoolean, ClockTooLarge}
 use Rattle.pz_state.specs.States.{initial, nils}
 use Rattle.pz_eval_rules.specs.declared.allowance.Allowance.{Allowance}

@@ -1,7 +1,7 @@
 -- What is found of what does not name the clock is the same at each clock.
 use Rattle.std.proofs.Common.{◌≡◌, ℕ, false, [], refl, sym, ◌∙◌, subst}
-use Rattle.pz_syntax.specs.Classes.{ModelTree}
-use Rattle.pz_classes_code.specs.CodeView.{Tree}
+use Rattle.pz_classes_rules.specs.pz_syntax.Classes.{ModelTree}
+use Rattle.pz_classes_rules.specs.pz_classes_code.CodeView.{Tree}
 use Rattle.pz_state.specs.States.{StateView}
 use Rattle.pz_eval_rules.specs.declared.allowance.Allowance.{Allowance}
 use Rattle.pz_eval_rules.specs.declared.outcome.Outcome.{Outcome}

@@ -1,14 +1,14 @@
 -- What does not name the clock comes to the same at each clock.
 use Rattle.std.proofs.Common.{◌≡◌, ℕ, zero, suc, Bool, true, false, ◌||◌, List, [], ◌∷◌, ◌++◌, Option, Some, None, refl, ap, sym, ◌∙◌, subst}
-use Rattle.pz_syntax.specs.declared.tokens.Pos.{Pos}
-use Rattle.pz_syntax.specs.declared.names.Id.{Id}
-use Rattle.pz_syntax.specs.Expressions.{Expression, Expressions, Part, Links, Sendings, literal, variable, me, clock, creation, group, chain, sends, unary, assign, returned, choice, loop, none, more, left_out, written, no_links, link, no_sendings, sending}
-use Rattle.pz_syntax.specs.Classes.{ModelTree}
-use Rattle.pz_value.specs.declared.value.ClassId.{ClassId}
-use Rattle.pz_value.specs.declared.value.Value.{Value}
-use Rattle.pz_value.specs.declared.value.Value.TheVariants.{Nil}
-use Rattle.pz_classes_code.specs.declared.slot.Slot.{Slot}
-use Rattle.pz_classes_code.specs.CodeView.{Tree}
+use Rattle.pz_classes_rules.specs.pz_syntax.declared.tokens.Pos.{Pos}
+use Rattle.pz_classes_rules.specs.pz_syntax.declared.names.Id.{Id}
+use Rattle.pz_classes_rules.specs.pz_syntax.Expressions.{Expression, Expressions, Part, Links, Sendings, literal, variable, me, clock, creation, group, chain, sends, unary, assign, returned, choice, loop, none, more, left_out, written, no_links, link, no_sendings, sending}
+use Rattle.pz_classes_rules.specs.pz_syntax.Classes.{ModelTree}
+use Rattle.pz_state.specs.pz_value.declared.value.ClassId.{ClassId}
+use Rattle.pz_state.specs.pz_value.declared.value.Value.{Value}
+use Rattle.pz_state.specs.pz_value.declared.value.Value.TheVariants.{Nil}
+use Rattle.pz_classes_rules.specs.pz_classes_code.declared.slot.Slot.{Slot}
+use Rattle.pz_classes_rules.specs.pz_classes_code.CodeView.{Tree}
 use Rattle.pz_eval_rules.specs.Memories.{Memory, Location, in_object, started, write}
 use Rattle.pz_eval_rules.specs.Answers.{Answer, gives, stops, ended, ends}
 use Rattle.pz_eval_rules.specs.Steps.{Codes, Reply, answers, runs, reply, truth, chosen, applied, applied_alone}

@@ -1,10 +1,10 @@
 -- The units that are left bound the turns of a `while`.
 use Rattle.std.proofs.Common.{◌≡◌, ℕ, zero, suc, ◌≤◌, Bool, true, false, Option, Some, None, refl, arith}
-use Rattle.pz_syntax.specs.declared.tokens.Pos.{Pos}
-use Rattle.pz_syntax.specs.Classes.{ModelTree}
-use Rattle.pz_value.specs.declared.value.Value.{Value}
-use Rattle.pz_value.specs.declared.value.Value.TheVariants.{Nil}
-use Rattle.pz_classes_code.specs.CodeView.{Tree}
+use Rattle.pz_classes_rules.specs.pz_syntax.declared.tokens.Pos.{Pos}
+use Rattle.pz_classes_rules.specs.pz_syntax.Classes.{ModelTree}
+use Rattle.pz_state.specs.pz_value.declared.value.Value.{Value}
+use Rattle.pz_state.specs.pz_value.declared.value.Value.TheVariants.{Nil}
+use Rattle.pz_classes_rules.specs.pz_classes_code.CodeView.{Tree}
 use Rattle.pz_eval_rules.specs.Memories.{Memory, Location}
 use Rattle.pz_eval_rules.specs.Answers.{Answer, gives, stops}
 use Rattle.pz_eval_rules.specs.Steps.{Codes, truth}

@@ -1,7 +1,7 @@
 -- What an expression comes to.
 use Rattle.std.specs.Prelude.{List, [], ◌∷◌}
-use Rattle.pz_syntax.specs.declared.tokens.Pos.{Pos}
-use Rattle.pz_value.specs.declared.value.Value.{Value}
+use Rattle.pz_classes_rules.specs.pz_syntax.declared.tokens.Pos.{Pos}
+use Rattle.pz_state.specs.pz_value.declared.value.Value.{Value}
 use Rattle.pz_state.specs.declared.fault.FaultKind.{FaultKind}
 use Rattle.pz_eval_rules.specs.Memories.{Memory, left}
 

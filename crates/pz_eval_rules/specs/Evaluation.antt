@@ -7,19 +7,19 @@
 -- fault has counted the unit of what is wrong. The parts of an expression are one deeper than it, and
 -- so are the expressions of the body of each method that it calls.
 use Rattle.std.specs.Prelude.{◌≡◌, ℕ, suc, ◌+◌, max, Bool, true, false, List, [], ◌∷◌, ◌++◌, Some, None}
-use Rattle.pz_syntax.specs.declared.tokens.Pos.{Pos}
-use Rattle.pz_syntax.specs.declared.tokens.Symbol.{Symbol}
-use Rattle.pz_syntax.specs.declared.names.Id.{Id}
-use Rattle.pz_syntax.specs.declared.exprs.Literal.{Literal}
-use Rattle.pz_syntax.specs.Expressions.{literal, variable, me, clock, creation, group, chain, sends, unary, assign, returned, choice, loop, none, more, Part, left_out, written, Links, no_links, link, Sendings, no_sendings, sending}
-use Rattle.pz_syntax.specs.Classes.{ModelTree}
-use Rattle.pz_value.specs.declared.value.ClassId.{ClassId}
-use Rattle.pz_value.specs.declared.value.Value.{Value}
-use Rattle.pz_value.specs.declared.value.Value.TheVariants.{Nil}
-use Rattle.pz_classes_code.specs.declared.slot.Slot.{Slot}
-use Rattle.pz_classes_code.specs.CodeView.{Tree}
+use Rattle.pz_classes_rules.specs.pz_syntax.declared.tokens.Pos.{Pos}
+use Rattle.pz_classes_rules.specs.pz_syntax.declared.tokens.Symbol.{Symbol}
+use Rattle.pz_classes_rules.specs.pz_syntax.declared.names.Id.{Id}
+use Rattle.pz_classes_rules.specs.pz_syntax.declared.exprs.Literal.{Literal}
+use Rattle.pz_classes_rules.specs.pz_syntax.Expressions.{literal, variable, me, clock, creation, group, chain, sends, unary, assign, returned, choice, loop, none, more, Part, left_out, written, Links, no_links, link, Sendings, no_sendings, sending}
+use Rattle.pz_classes_rules.specs.pz_syntax.Classes.{ModelTree}
+use Rattle.pz_state.specs.pz_value.declared.value.ClassId.{ClassId}
+use Rattle.pz_state.specs.pz_value.declared.value.Value.{Value}
+use Rattle.pz_state.specs.pz_value.declared.value.Value.TheVariants.{Nil}
+use Rattle.pz_classes_rules.specs.pz_classes_code.declared.slot.Slot.{Slot}
+use Rattle.pz_classes_rules.specs.pz_classes_code.CodeView.{Tree}
 use Rattle.pz_state.specs.declared.fault.FaultKind.TheVariants.{NotBoolean}
-use Rattle.pz_classes_code.specs.Literals.{constant}
+use Rattle.pz_classes_rules.specs.pz_classes_code.Literals.{constant}
 use Rattle.pz_eval_rules.specs.Memories.{Memory, Location, in_object, read, write, self_at, started}
 use Rattle.pz_eval_rules.specs.Answers.{Stop, ends, fault, Answer, gives, stops, ended}
 use Rattle.pz_eval_rules.specs.Steps.{Codes, time, created, truth, chosen, applied, applied_alone, answers, runs, reply}

@@ -1,9 +1,9 @@
 -- What an evaluation reads and writes.
 use Rattle.std.specs.Prelude.{ℕ, ◌-◌, ◌++◌, List, length, slice_set}
-use Rattle.pz_value.specs.declared.value.Value.{Value}
-use Rattle.pz_value.specs.declared.value.Value.TheVariants.{Nil}
-use Rattle.pz_classes_code.specs.declared.slot.Slot.{Slot}
-use Rattle.pz_classes_code.specs.declared.slot.Slot.TheVariants.{Local, Shared, Unknown}
+use Rattle.pz_state.specs.pz_value.declared.value.Value.{Value}
+use Rattle.pz_state.specs.pz_value.declared.value.Value.TheVariants.{Nil}
+use Rattle.pz_classes_rules.specs.pz_classes_code.declared.slot.Slot.{Slot}
+use Rattle.pz_classes_rules.specs.pz_classes_code.declared.slot.Slot.TheVariants.{Local, Shared, Unknown}
 use Rattle.pz_state.specs.States.{StateView, nils, value_at, variable, local, item, set_variable, set_local, set_item}
 
 -- the state, and the locals of the data method that runs, which are no part of the state

@@ -1,9 +1,9 @@
 -- What an evaluation within an allowance finds, and the state afterwards.
 use Rattle.std.specs.Prelude.{◌≡◌, ◌≤◌, ℕ, List, []}
-use Rattle.pz_syntax.specs.declared.tokens.Pos.{Pos}
-use Rattle.pz_syntax.specs.Classes.{ModelTree}
-use Rattle.pz_value.specs.declared.value.Value.{Value}
-use Rattle.pz_classes_code.specs.CodeView.{Tree}
+use Rattle.pz_classes_rules.specs.pz_syntax.declared.tokens.Pos.{Pos}
+use Rattle.pz_classes_rules.specs.pz_syntax.Classes.{ModelTree}
+use Rattle.pz_state.specs.pz_value.declared.value.Value.{Value}
+use Rattle.pz_classes_rules.specs.pz_classes_code.CodeView.{Tree}
 use Rattle.pz_state.specs.declared.fault.FaultKind.{FaultKind}
 use Rattle.pz_state.specs.States.{StateView}
 use Rattle.pz_eval_rules.specs.declared.allowance.Allowance.{Allowance}

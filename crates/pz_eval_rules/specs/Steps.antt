@@ -1,24 +1,24 @@
 -- The steps of evaluation that evaluate nothing further.
 use Rattle.std.specs.Prelude.{ℕ, ◌^◌, nat_lt, pos, Bool, true, false, if◌then◌else◌, List, [], ◌∷◌, length, Option, Some, None, codes}
 use Rattle.std.specs.Option.{option_and_then}
-use Rattle.pz_syntax.specs.declared.tokens.Pos.{Pos}
-use Rattle.pz_syntax.specs.declared.tokens.Symbol.{Symbol}
-use Rattle.pz_syntax.specs.declared.tokens.Symbol.TheVariants.{Plus, Minus, Star, Slash, Equal, Same, Unequal, Distinct, Less, LessEqual, Greater, GreaterEqual, Ampersand, Bar, Bang}
-use Rattle.pz_syntax.specs.declared.names.Id.{Id}
-use Rattle.pz_syntax.specs.Expressions.{Expressions, none, Part, left_out, written}
-use Rattle.pz_syntax.specs.Classes.{ModelTree}
-use Rattle.pz_value.specs.declared.value.ClassId.{ClassId}
-use Rattle.pz_value.specs.declared.value.Value.{Value}
-use Rattle.pz_value.specs.declared.value.Value.TheVariants.{Nil, Bool as Boolean, Int, Char, Str, Ref}
-use Rattle.pz_classes_code.specs.declared.slot.Slot.{Slot}
+use Rattle.pz_classes_rules.specs.pz_syntax.declared.tokens.Pos.{Pos}
+use Rattle.pz_classes_rules.specs.pz_syntax.declared.tokens.Symbol.{Symbol}
+use Rattle.pz_classes_rules.specs.pz_syntax.declared.tokens.Symbol.TheVariants.{Plus, Minus, Star, Slash, Equal, Same, Unequal, Distinct, Less, LessEqual, Greater, GreaterEqual, Ampersand, Bar, Bang}
+use Rattle.pz_classes_rules.specs.pz_syntax.declared.names.Id.{Id}
+use Rattle.pz_classes_rules.specs.pz_syntax.Expressions.{Expressions, none, Part, left_out, written}
+use Rattle.pz_classes_rules.specs.pz_syntax.Classes.{ModelTree}
+use Rattle.pz_state.specs.pz_value.declared.value.ClassId.{ClassId}
+use Rattle.pz_state.specs.pz_value.declared.value.Value.{Value}
+use Rattle.pz_state.specs.pz_value.declared.value.Value.TheVariants.{Nil, Bool as Boolean, Int, Char, Str, Ref}
+use Rattle.pz_classes_rules.specs.pz_classes_code.declared.slot.Slot.{Slot}
 use Rattle.pz_state.specs.declared.fault.FaultKind.TheVariants.{NotUnderstood, StoreFull, ClockTooLarge}
 use Rattle.pz_state.specs.States.{object_limit}
 use Rattle.pz_state.specs.States.{object, made}
 use Rattle.pz_prims.specs.declared.answer.Prim.{Prim}
 use Rattle.pz_prims.specs.Table.{Outcome, outcome}
-use Rattle.pz_classes.specs.Members.{fields}
-use Rattle.pz_classes.specs.Bodies.{BodyTree, data_body, process_body}
-use Rattle.pz_classes.specs.MethodBodies.{method_body}
+use Rattle.pz_classes_rules.specs.Members.{fields}
+use Rattle.pz_classes_rules.specs.Bodies.{BodyTree, data_body, process_body}
+use Rattle.pz_classes_rules.specs.MethodBodies.{method_body}
 use Rattle.pz_eval_rules.specs.Memories.{Memory, with_state}
 use Rattle.pz_eval_rules.specs.Answers.{Answer, gives, stops, fault}
 

@@ -53,5 +53,5 @@ pub fn unclocked_is_timeless()
     ensures computed { UnclockedIsComputedTheSame }
     ensures computed_list { UnclockedListIsComputedTheSame }
 {
-    pz_classes::laws::sound_bodies_fit();
+    pz_classes_rules::laws::sound_bodies_fit();
 }

@@ -1,7 +1,7 @@
-use pz_items::Items;
+use pz_classes_rules::pz_items::Items;
+use pz_classes_rules::pz_syntax::Pos;
 use pz_state::FaultKind;
-use pz_syntax::Pos;
-use pz_value::Value;
+use pz_state::pz_value::Value;
 
 /// What an evaluation finds.
 #[derive(Drop)]

@@ -1,6 +1,6 @@
 -- How deep a line stands.
 use Rattle.std.specs.Prelude.{ℕ, ◌+◌, ◌-◌, ◌*◌, Bool, true, false, if◌then◌else◌, nat_lt, zero, suc, List, [], ◌∷◌}
-use Rattle.pz_items.specs.Characters.{byte}
+use Rattle.pz_syntax.specs.pz_items.Characters.{byte}
 use Rattle.pz_syntax.specs.declared.tokens.Keyword.{Keyword}
 use Rattle.pz_syntax.specs.declared.tokens.Keyword.TheVariants as k
 use Rattle.pz_syntax.specs.declared.tokens.Symbol.TheVariants as s

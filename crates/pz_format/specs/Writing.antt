@@ -2,7 +2,7 @@
 use Rattle.std.specs.Prelude.{ℕ, ◌+◌, ◌-◌, ◌/◌, ◌%◌, ◌||◌, ◌&&◌, ◌==◌, nat_le, nat_lt, if◌then◌else◌, List, [], ◌∷◌, ◌++◌, codes}
 use Rattle.std.specs.List.{flat_map}
 use Rattle.std.specs.Fmt.{signed_decimal}
-use Rattle.pz_items.specs.Characters.{byte}
+use Rattle.pz_syntax.specs.pz_items.Characters.{byte}
 use Rattle.pz_syntax.specs.declared.tokens.TokenKind.{TokenKind}
 use Rattle.pz_syntax.specs.declared.tokens.TokenKind.TheVariants as kind
 use Rattle.pz_lexer.specs.declared.kept.Piece.{Piece}

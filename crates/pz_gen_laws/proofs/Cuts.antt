@@ -4,7 +4,7 @@ use Rattle.std.specs.Prelude.{unwrap_or}
 use Rattle.std.specs.List.{list_all, flat_map}
 use Rattle.std.proofs.lemmas.Bool.{false≢true, and_parts, and_from, or_cases, cond-false, not-true, both_ways, cases_Bool}
 use Rattle.std.proofs.lemmas.Slice.Eq.{bytes_eq-Decides}
-use Rattle.pz_syntax.specs.declared.tokens.Symbol.{Symbol}
+use Rattle.pz_classes_rules.specs.pz_syntax.declared.tokens.Symbol.{Symbol}
 use Rattle.pz_lexer.specs.Pieces.{IsPiece, joined, ArePieces, a_blank, a_word, an_integer, a_symbol}
 use Rattle.pz_lexer.specs.Spellings.{spelled}
 use Rattle.pz_lexer.specs.Symbols.{symbols}

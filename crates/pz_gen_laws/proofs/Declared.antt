@@ -5,10 +5,10 @@ use Rattle.std.specs.List.{AllByRecursion, list_all}
 use Rattle.std.proofs.lemmas.Bool.{and_parts, not-true}
 use Rattle.std.proofs.lemmas.List.Elements.{All-contains}
 use Rattle.std.proofs.lemmas.List.Sums.{AllPass-from_list_all}
-use Rattle.pz_syntax.specs.declared.tokens.Pos.{Pos}
-use Rattle.pz_syntax.specs.declared.clusters.SystemDecl.{SystemDecl}
-use Rattle.pz_syntax.specs.Classes.{DeclTree, process_class, system}
-use Rattle.pz_classes.specs.Numbers.{declaration}
+use Rattle.pz_classes_rules.specs.pz_syntax.declared.tokens.Pos.{Pos}
+use Rattle.pz_classes_rules.specs.pz_syntax.declared.clusters.SystemDecl.{SystemDecl}
+use Rattle.pz_classes_rules.specs.pz_syntax.Classes.{DeclTree, process_class, system}
+use Rattle.pz_classes_rules.specs.Numbers.{declaration}
 use Rattle.pz_gen_laws.specs.devices.RingTree.{station_at, supervisor_at, with_system}
 use Rattle.pz_gen_laws.proofs.Distinct.{some_same, none_some}
 

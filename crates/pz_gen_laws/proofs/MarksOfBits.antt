@@ -1,9 +1,9 @@
 -- The marks of the tokens of bits.
 use Rattle.std.proofs.Common.{◌≡◌, refl, ◌∙◌, ap, List, [], ◌∷◌, map, pos}
-use Rattle.pz_syntax.specs.declared.tokens.Pos.{Pos}
-use Rattle.pz_syntax.specs.declared.tokens.TokenKind.{TokenKind}
-use Rattle.pz_syntax.specs.declared.tokens.Mark.{Mark}
-use Rattle.pz_syntax.specs.Heads.{role, is_head, heads}
+use Rattle.pz_classes_rules.specs.pz_syntax.declared.tokens.Pos.{Pos}
+use Rattle.pz_classes_rules.specs.pz_syntax.declared.tokens.TokenKind.{TokenKind}
+use Rattle.pz_classes_rules.specs.pz_syntax.declared.tokens.Mark.{Mark}
+use Rattle.pz_classes_rules.specs.pz_syntax.Heads.{role, is_head, heads}
 use Rattle.pz_lexer.specs.Numbers.{value_of}
 use Rattle.pz_lexer.specs.Places.{origin, place_after}
 use Rattle.pz_lexer.specs.Tokens.{Placed, placed, tokens_of}

@@ -6,7 +6,7 @@ use Rattle.std.specs.Fmt.{decimal, digits, digits_onto, digit_glyph}
 use Rattle.std.proofs.lemmas.Bool.{and_parts, and_from, or_right, cond_both, cond-true, cond-false, not-true, both_ways, false_from_ne_true}
 use Rattle.std.proofs.lemmas.Fmt.{decimal_injective}
 use Rattle.std.proofs.lemmas.Slice.Eq.{bytes_eq-Decides}
-use Rattle.pz_syntax.specs.declared.tokens.TokenKind.{TokenKind}
+use Rattle.pz_classes_rules.specs.pz_syntax.declared.tokens.TokenKind.{TokenKind}
 use Rattle.pz_lexer.specs.declared.sorts.Sort.{Sort}
 use Rattle.pz_lexer.specs.Bytes.{is_digit, is_word, begins}
 use Rattle.pz_lexer.specs.Pieces.{IsPiece, a_word}

@@ -1,20 +1,20 @@
 -- Trees at the places of tokens: their texts are as before, and to put them there again changes nothing.
 use Rattle.std.proofs.Common.{◌≡◌, refl, ◌∙◌, ap, ap₂, ℕ, suc, ◌+◌, List, [], ◌∷◌, ◌++◌, length, Option, Some, None}
-use Rattle.pz_syntax.specs.declared.tokens.Keyword.TheVariants as k
-use Rattle.pz_syntax.specs.declared.tokens.Symbol.{Symbol}
-use Rattle.pz_syntax.specs.declared.tokens.Symbol.TheVariants as s
-use Rattle.pz_syntax.specs.declared.tokens.Pos.{Pos}
-use Rattle.pz_syntax.specs.declared.tokens.Mark.{Mark}
-use Rattle.pz_syntax.specs.declared.clusters.Arg.{Arg}
-use Rattle.pz_syntax.specs.declared.clusters.Arg.TheVariants.{Plain, Negated, Parameter}
-use Rattle.pz_syntax.specs.declared.clusters.Given.{Given}
-use Rattle.pz_syntax.specs.declared.clusters.Instance.{Instance}
-use Rattle.pz_syntax.specs.declared.clusters.Channel.{Channel}
-use Rattle.pz_syntax.specs.declared.clusters.ChannelEnd.{ChannelEnd}
-use Rattle.pz_syntax.specs.declared.clusters.ChannelEnd.TheVariants.{Inner, Outer}
-use Rattle.pz_syntax.specs.declared.clusters.SystemDecl.{SystemDecl}
-use Rattle.pz_syntax.specs.Marks.{symbol, keyword, word, head, in_parentheses, in_braces, tail_separated, separated, each_text, optional, section}
-use Rattle.pz_syntax.specs.ModelText.{arg_text, given_text, givens_text, instance_text, end_text, channel_text, system_text}
+use Rattle.pz_classes_rules.specs.pz_syntax.declared.tokens.Keyword.TheVariants as k
+use Rattle.pz_classes_rules.specs.pz_syntax.declared.tokens.Symbol.{Symbol}
+use Rattle.pz_classes_rules.specs.pz_syntax.declared.tokens.Symbol.TheVariants as s
+use Rattle.pz_classes_rules.specs.pz_syntax.declared.tokens.Pos.{Pos}
+use Rattle.pz_classes_rules.specs.pz_syntax.declared.tokens.Mark.{Mark}
+use Rattle.pz_classes_rules.specs.pz_syntax.declared.clusters.Arg.{Arg}
+use Rattle.pz_classes_rules.specs.pz_syntax.declared.clusters.Arg.TheVariants.{Plain, Negated, Parameter}
+use Rattle.pz_classes_rules.specs.pz_syntax.declared.clusters.Given.{Given}
+use Rattle.pz_classes_rules.specs.pz_syntax.declared.clusters.Instance.{Instance}
+use Rattle.pz_classes_rules.specs.pz_syntax.declared.clusters.Channel.{Channel}
+use Rattle.pz_classes_rules.specs.pz_syntax.declared.clusters.ChannelEnd.{ChannelEnd}
+use Rattle.pz_classes_rules.specs.pz_syntax.declared.clusters.ChannelEnd.TheVariants.{Inner, Outer}
+use Rattle.pz_classes_rules.specs.pz_syntax.declared.clusters.SystemDecl.{SystemDecl}
+use Rattle.pz_classes_rules.specs.pz_syntax.Marks.{symbol, keyword, word, head, in_parentheses, in_braces, tail_separated, separated, each_text, optional, section}
+use Rattle.pz_classes_rules.specs.pz_syntax.ModelText.{arg_text, given_text, givens_text, instance_text, end_text, channel_text, system_text}
 use Rattle.pz_parser_cursor.specs.Places.{Placing, place_id, place_tail, place_separated, place_each, place_optional, place_section}
 use Rattle.pz_parser_declarations.specs.ClusterPlaces.{place_arg, place_given, place_givens, place_instance, place_instances, place_end, place_channel, place_channels, place_system}
 

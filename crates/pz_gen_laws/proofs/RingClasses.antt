@@ -4,22 +4,22 @@ use Rattle.std.specs.Option.{option_map_or}
 use Rattle.std.specs.List.{list_all}
 use Rattle.std.proofs.lemmas.Bool.{and_parts, both_ways}
 use Rattle.std.proofs.lemmas.Slice.Eq.{bytes_eq-Decides}
-use Rattle.pz_syntax.specs.declared.tokens.Pos.{Pos}
-use Rattle.pz_syntax.specs.declared.names.Id.{Id}
-use Rattle.pz_syntax.specs.declared.classes.Message.{Message}
-use Rattle.pz_syntax.specs.declared.clusters.Instance.{Instance}
-use Rattle.pz_syntax.specs.declared.clusters.SystemDecl.{SystemDecl}
-use Rattle.pz_syntax.specs.Classes.{DeclTree}
+use Rattle.pz_classes_rules.specs.pz_syntax.declared.tokens.Pos.{Pos}
+use Rattle.pz_classes_rules.specs.pz_syntax.declared.names.Id.{Id}
+use Rattle.pz_classes_rules.specs.pz_syntax.declared.classes.Message.{Message}
+use Rattle.pz_classes_rules.specs.pz_syntax.declared.clusters.Instance.{Instance}
+use Rattle.pz_classes_rules.specs.pz_syntax.declared.clusters.SystemDecl.{SystemDecl}
+use Rattle.pz_classes_rules.specs.pz_syntax.Classes.{DeclTree}
 use Rattle.pz_classes_mentions.specs.declared.local_scope.LocalScope.{LocalScope}
 use Rattle.pz_classes_mentions.specs.Declarations.{parts}
-use Rattle.pz_check_violations.specs.declared.violation.Violation.{Violation}
-use Rattle.pz_classes.specs.Numbers.{declared_name, declaration}
-use Rattle.pz_classes.specs.Ancestors.{extended, parent}
-use Rattle.pz_classes.specs.Members.{fields, variables, ports, spelled}
-use Rattle.pz_classes.specs.Instances.{instances}
-use Rattle.pz_classes.specs.Violations.{breaks_c1, breaks_c2, Violates, c1, c2, c3}
-use Rattle.pz_classes.specs.CallRules.{own_messages}
-use Rattle.pz_classes.specs.RepeatRules.{RepeatsName, same_name, Heading, headings, same_heading, same_message, BreaksC4, again_field, again_variable, again_port, again_local, again_instance, again_method, again_message}
+use Rattle.pz_classes_rules.specs.pz_check_violations.declared.violation.Violation.{Violation}
+use Rattle.pz_classes_rules.specs.Numbers.{declared_name, declaration}
+use Rattle.pz_classes_rules.specs.Ancestors.{extended, parent}
+use Rattle.pz_classes_rules.specs.Members.{fields, variables, ports, spelled}
+use Rattle.pz_classes_rules.specs.Instances.{instances}
+use Rattle.pz_classes_rules.specs.Violations.{breaks_c1, breaks_c2, Violates, c1, c2, c3}
+use Rattle.pz_classes_rules.specs.CallRules.{own_messages}
+use Rattle.pz_classes_rules.specs.RepeatRules.{RepeatsName, same_name, Heading, headings, same_heading, same_message, BreaksC4, again_field, again_variable, again_port, again_local, again_instance, again_method, again_message}
 use Rattle.pz_gen_laws.specs.devices.RingTree.{with_system}
 use Rattle.pz_gen_laws.specs.devices.RingParts.{part_name, instances_in, AreDistinct}
 use Rattle.pz_gen_laws.proofs.Distinct.{none_some, no_repeat, distinct_bytes, are_distinct}

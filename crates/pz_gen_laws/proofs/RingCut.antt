@@ -3,7 +3,7 @@ use Rattle.std.proofs.Common.{◌≡◌, refl, ◌∙◌, ap, ap₂, ℕ, ◌==�
 use Rattle.std.specs.List.{flat_map}
 use Rattle.pz_lexer.specs.Bytes.{is_word, begins}
 use Rattle.pz_lexer.specs.Tokens.{AreTokens, tokens_of}
-use Rattle.pz_syntax.specs.declared.tokens.Token.{Token}
+use Rattle.pz_classes_rules.specs.pz_syntax.declared.tokens.Token.{Token}
 use Rattle.pz_parser_cursor.specs.devices.Input.{marks}
 use Rattle.pz_gen.specs.Ring as ring
 use Rattle.pz_gen_laws.specs.devices.Bits.{Bit, piece_of, text_of, all_fit}

@@ -6,19 +6,19 @@ use Rattle.std.proofs.lemmas.Bool.{false≢true, both_ways, and_parts, cond-true
 use Rattle.std.proofs.lemmas.List.Elements.{All-nil, All-contains, All-from_recursion}
 use Rattle.std.proofs.lemmas.List.Folds.{list_any-append}
 use Rattle.std.proofs.lemmas.Slice.Eq.{bytes_eq-Decides}
-use Rattle.pz_syntax.specs.declared.tokens.Pos.{Pos}
-use Rattle.pz_syntax.specs.declared.clusters.Instance.{Instance}
-use Rattle.pz_syntax.specs.declared.clusters.ChannelEnd.{ChannelEnd}
-use Rattle.pz_syntax.specs.declared.clusters.ChannelEnd.TheVariants.{Inner, Outer}
-use Rattle.pz_syntax.specs.declared.clusters.SystemDecl.{SystemDecl}
-use Rattle.pz_syntax.specs.Classes.{DeclTree, system}
-use Rattle.pz_check_violations.specs.declared.violation.Violation.{Violation}
-use Rattle.pz_classes.specs.Numbers.{declaration}
-use Rattle.pz_classes.specs.Kinds.{is_cluster}
-use Rattle.pz_classes.specs.Members.{spelled}
-use Rattle.pz_classes.specs.Instances.{instances, instance_class, parameters}
-use Rattle.pz_classes.specs.InstanceRules.{given_names, gives_each, BreaksC14, ill_given, BreaksC15, holds_itself}
-use Rattle.pz_classes.specs.ChannelRules.{end_place, ends, instance_named, has_port, breaks_c16, BreaksC16, no_end, same_end, BreaksC17, again_end, again_outer}
+use Rattle.pz_classes_rules.specs.pz_syntax.declared.tokens.Pos.{Pos}
+use Rattle.pz_classes_rules.specs.pz_syntax.declared.clusters.Instance.{Instance}
+use Rattle.pz_classes_rules.specs.pz_syntax.declared.clusters.ChannelEnd.{ChannelEnd}
+use Rattle.pz_classes_rules.specs.pz_syntax.declared.clusters.ChannelEnd.TheVariants.{Inner, Outer}
+use Rattle.pz_classes_rules.specs.pz_syntax.declared.clusters.SystemDecl.{SystemDecl}
+use Rattle.pz_classes_rules.specs.pz_syntax.Classes.{DeclTree, system}
+use Rattle.pz_classes_rules.specs.pz_check_violations.declared.violation.Violation.{Violation}
+use Rattle.pz_classes_rules.specs.Numbers.{declaration}
+use Rattle.pz_classes_rules.specs.Kinds.{is_cluster}
+use Rattle.pz_classes_rules.specs.Members.{spelled}
+use Rattle.pz_classes_rules.specs.Instances.{instances, instance_class, parameters}
+use Rattle.pz_classes_rules.specs.InstanceRules.{given_names, gives_each, BreaksC14, ill_given, BreaksC15, holds_itself}
+use Rattle.pz_classes_rules.specs.ChannelRules.{end_place, ends, instance_named, has_port, breaks_c16, BreaksC16, no_end, same_end, BreaksC17, again_end, again_outer}
 use Rattle.pz_gen.specs.Ring.{name, next}
 use Rattle.pz_gen_laws.specs.devices.RingBits.{stations}
 use Rattle.pz_gen_laws.specs.devices.RingTree.{with_system}

@@ -2,14 +2,14 @@
 -- is in place.
 use Rattle.std.proofs.Common.{◌≡◌, refl, sym, ◌∙◌, ap, ℕ, suc, ◌+◌, ◌≤◌, length, List, [], ◌∷◌, ◌++◌, map, arith}
 use Rattle.std.proofs.lemmas.List.{append-nil}
-use Rattle.pz_syntax.specs.declared.tokens.Pos.{Pos}
-use Rattle.pz_syntax.specs.declared.clusters.Channel.{Channel}
-use Rattle.pz_syntax.specs.declared.clusters.ChannelEnd.{ChannelEnd}
-use Rattle.pz_syntax.specs.declared.clusters.SystemDecl.{SystemDecl}
-use Rattle.pz_syntax.specs.Classes.{system}
-use Rattle.pz_syntax.specs.ModelForm.{IsNonempty, Each, IsProcessClass, IsChannel, IsModel}
-use Rattle.pz_syntax.specs.ModelNesting.{nesting}
-use Rattle.pz_syntax.specs.ModelText.{end_text, channel_text, decl_text, text}
+use Rattle.pz_classes_rules.specs.pz_syntax.declared.tokens.Pos.{Pos}
+use Rattle.pz_classes_rules.specs.pz_syntax.declared.clusters.Channel.{Channel}
+use Rattle.pz_classes_rules.specs.pz_syntax.declared.clusters.ChannelEnd.{ChannelEnd}
+use Rattle.pz_classes_rules.specs.pz_syntax.declared.clusters.SystemDecl.{SystemDecl}
+use Rattle.pz_classes_rules.specs.pz_syntax.Classes.{system}
+use Rattle.pz_classes_rules.specs.pz_syntax.ModelForm.{IsNonempty, Each, IsProcessClass, IsChannel, IsModel}
+use Rattle.pz_classes_rules.specs.pz_syntax.ModelNesting.{nesting}
+use Rattle.pz_classes_rules.specs.pz_syntax.ModelText.{end_text, channel_text, decl_text, text}
 use Rattle.pz_parser_cursor.specs.Places.{place_separated, place_each}
 use Rattle.pz_parser_declarations.specs.ClusterPlaces.{place_end, place_channel, place_system}
 use Rattle.pz_parser.specs.ModelPlaces.{place_model}

@@ -1,15 +1,15 @@
 -- The marks of a ring are the text of its tree.
 use Rattle.std.proofs.Common.{◌≡◌, refl, sym, ◌∙◌, ap, ap₂, ℕ, ◌==◌, Bool, true, false, List, [], ◌∷◌, ◌++◌, map, codes, append_assoc, append-nil}
 use Rattle.std.specs.List.{flat_map}
-use Rattle.pz_syntax.specs.declared.tokens.Keyword.TheVariants as k
-use Rattle.pz_syntax.specs.declared.tokens.Symbol.TheVariants as s
-use Rattle.pz_syntax.specs.declared.tokens.TokenKind.TheVariants as kind
-use Rattle.pz_syntax.specs.declared.tokens.Mark.{Mark}
-use Rattle.pz_syntax.specs.Heads.{goes_on, makes_head}
-use Rattle.pz_syntax.specs.Classes.{process_class, system}
-use Rattle.pz_syntax.specs.Marks.{symbol, keyword, mark, tail_separated, each_text}
-use Rattle.pz_syntax.specs.ExpressionText.{literal_kind}
-use Rattle.pz_syntax.specs.ModelText.{instance_text, end_text, channel_text, decl_text}
+use Rattle.pz_classes_rules.specs.pz_syntax.declared.tokens.Keyword.TheVariants as k
+use Rattle.pz_classes_rules.specs.pz_syntax.declared.tokens.Symbol.TheVariants as s
+use Rattle.pz_classes_rules.specs.pz_syntax.declared.tokens.TokenKind.TheVariants as kind
+use Rattle.pz_classes_rules.specs.pz_syntax.declared.tokens.Mark.{Mark}
+use Rattle.pz_classes_rules.specs.pz_syntax.Heads.{goes_on, makes_head}
+use Rattle.pz_classes_rules.specs.pz_syntax.Classes.{process_class, system}
+use Rattle.pz_classes_rules.specs.pz_syntax.Marks.{symbol, keyword, mark, tail_separated, each_text}
+use Rattle.pz_classes_rules.specs.pz_syntax.ExpressionText.{literal_kind}
+use Rattle.pz_classes_rules.specs.pz_syntax.ModelText.{instance_text, end_text, channel_text, decl_text}
 use Rattle.pz_gen.specs.Ring as ring
 use Rattle.pz_gen_laws.specs.devices.Bits.{Bit}
 use Rattle.pz_gen_laws.specs.devices.Marks.{kinds, roles, marks_of}

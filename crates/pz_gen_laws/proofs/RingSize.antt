@@ -5,11 +5,11 @@ use Rattle.std.proofs.lemmas.Bool.{both_ways, or_from}
 use Rattle.std.proofs.lemmas.List.{length-map}
 use Rattle.std.proofs.lemmas.List.FromFn.{length-range_with_len}
 use Rattle.std.proofs.lemmas.List.Elements.{All-contains, All-from_recursion}
-use Rattle.pz_syntax.specs.declared.tokens.Pos.{Pos}
-use Rattle.pz_syntax.specs.declared.clusters.Instance.{Instance}
-use Rattle.pz_syntax.specs.declared.clusters.SystemDecl.{SystemDecl}
-use Rattle.pz_check_violations.specs.declared.violation.Violation.{Violation}
-use Rattle.pz_classes.specs.SizeRules.{systems, BreaksC20, again_system, no_system, Totals, all_of, expanded, system_size, is_too_large, BreaksC19, too_large}
+use Rattle.pz_classes_rules.specs.pz_syntax.declared.tokens.Pos.{Pos}
+use Rattle.pz_classes_rules.specs.pz_syntax.declared.clusters.Instance.{Instance}
+use Rattle.pz_classes_rules.specs.pz_syntax.declared.clusters.SystemDecl.{SystemDecl}
+use Rattle.pz_classes_rules.specs.pz_check_violations.declared.violation.Violation.{Violation}
+use Rattle.pz_classes_rules.specs.SizeRules.{systems, BreaksC20, again_system, no_system, Totals, all_of, expanded, system_size, is_too_large, BreaksC19, too_large}
 use Rattle.pz_gen.specs.Ring.{name}
 use Rattle.pz_gen_laws.specs.devices.RingBits.{stations}
 use Rattle.pz_gen_laws.specs.devices.RingTree.{with_system}

@@ -1,9 +1,9 @@
 -- A ring violates none of C1 to C22.
 use Rattle.std.proofs.Common.{sym, subst, ℕ, ◌≤◌}
-use Rattle.pz_syntax.specs.declared.tokens.Pos.{Pos}
-use Rattle.pz_syntax.specs.declared.clusters.SystemDecl.{SystemDecl}
-use Rattle.pz_check_violations.specs.declared.violation.Violation.{Violation}
-use Rattle.pz_classes.specs.Soundness.{Breaks, a_word, a_repeat, given, holding, an_end, two_ends, size, the_system, IsSound}
+use Rattle.pz_classes_rules.specs.pz_syntax.declared.tokens.Pos.{Pos}
+use Rattle.pz_classes_rules.specs.pz_syntax.declared.clusters.SystemDecl.{SystemDecl}
+use Rattle.pz_classes_rules.specs.pz_check_violations.declared.violation.Violation.{Violation}
+use Rattle.pz_classes_rules.specs.Soundness.{Breaks, a_word, a_repeat, given, holding, an_end, two_ends, size, the_system, IsSound}
 use Rattle.pz_gen_laws.specs.devices.RingTree.{with_system}
 use Rattle.pz_gen_laws.specs.devices.RingParts.{AreDistinct, IsRing}
 use Rattle.pz_gen_laws.proofs.RingKeys.{names_distinct, keys_distinct}

@@ -3,20 +3,20 @@ use Rattle.std.proofs.Common.{◌≡◌, refl, ◌∙◌, ℕ, Bool, true, false
 use Rattle.std.specs.List.{AllByRecursion, list_all}
 use Rattle.std.proofs.lemmas.Bool.{and_from, both_ways}
 use Rattle.std.proofs.lemmas.List.Folds.{list_all-append}
-use Rattle.pz_syntax.specs.declared.tokens.Pos.{Pos}
-use Rattle.pz_syntax.specs.declared.names.Id.{Id}
-use Rattle.pz_syntax.specs.declared.clusters.Instance.{Instance}
-use Rattle.pz_syntax.specs.declared.clusters.SystemDecl.{SystemDecl}
-use Rattle.pz_syntax.specs.Classes.{DeclTree, process_class, system, ModelTree}
+use Rattle.pz_classes_rules.specs.pz_syntax.declared.tokens.Pos.{Pos}
+use Rattle.pz_classes_rules.specs.pz_syntax.declared.names.Id.{Id}
+use Rattle.pz_classes_rules.specs.pz_syntax.declared.clusters.Instance.{Instance}
+use Rattle.pz_classes_rules.specs.pz_syntax.declared.clusters.SystemDecl.{SystemDecl}
+use Rattle.pz_classes_rules.specs.pz_syntax.Classes.{DeclTree, process_class, system, ModelTree}
 use Rattle.pz_classes_mentions.specs.declared.mention.Mention.{Mention}
 use Rattle.pz_classes_mentions.specs.declared.local_scope.LocalScope.{LocalScope}
 use Rattle.pz_classes_mentions.specs.Declarations.{parts, mentioned_instance, mentioned_instances}
-use Rattle.pz_check_violations.specs.declared.violation.Violation.{Violation}
-use Rattle.pz_classes.specs.Numbers.{declaration}
-use Rattle.pz_classes.specs.NameRules.{breaks_c5, breaks_c6, breaks_c12, breaks_c13, breaks_c18, breaks_c21, breaks_c22}
-use Rattle.pz_classes.specs.CallRules.{breaks_c7, breaks_c8, breaks_c9, breaks_c10, breaks_c11}
-use Rattle.pz_classes.specs.Words.{Mentions}
-use Rattle.pz_classes.specs.WordRules.{BreaksWord, c5, c6, c7, c8, c9, c10, c11, c12, c13, c18, c21, c22}
+use Rattle.pz_classes_rules.specs.pz_check_violations.declared.violation.Violation.{Violation}
+use Rattle.pz_classes_rules.specs.Numbers.{declaration}
+use Rattle.pz_classes_rules.specs.NameRules.{breaks_c5, breaks_c6, breaks_c12, breaks_c13, breaks_c18, breaks_c21, breaks_c22}
+use Rattle.pz_classes_rules.specs.CallRules.{breaks_c7, breaks_c8, breaks_c9, breaks_c10, breaks_c11}
+use Rattle.pz_classes_rules.specs.Words.{Mentions}
+use Rattle.pz_classes_rules.specs.WordRules.{BreaksWord, c5, c6, c7, c8, c9, c10, c11, c12, c13, c18, c21, c22}
 use Rattle.pz_gen_laws.specs.devices.RingTree.{station_at, supervisor_at, with_system}
 use Rattle.pz_gen_laws.specs.devices.RingParts.{IsPart, a_station, the_supervisor, instances_in}
 use Rattle.pz_gen_laws.proofs.Declared.{by_number, passes_in, none, none_holds}

@@ -1,6 +1,6 @@
 -- The text of every ring is that of a model.
 use Rattle.std.proofs.Common.{sym, ◌∙◌, ℕ, ◌≤◌}
-use Rattle.pz_syntax.specs.declared.tokens.Pos.{Pos}
+use Rattle.pz_classes_rules.specs.pz_syntax.declared.tokens.Pos.{Pos}
 use Rattle.pz_parser_cursor.specs.Places.{positions}
 use Rattle.pz_parser_declarations.specs.ClusterPlaces.{place_system}
 use Rattle.pz_gen.specs.Ring as ring

@@ -1,6 +1,6 @@
 -- Every ring is a model, and its text is short.
 use Rattle.std.specs.Prelude.{ℕ, ◌≤◌, ◌<◌, ◌^◌, length}
-use Rattle.pz_syntax.specs.Classes.{ModelTree}
+use Rattle.pz_classes_rules.specs.pz_syntax.Classes.{ModelTree}
 use Rattle.pz_gen.specs.Ring as ring
 use Rattle.pz_run_reading.specs.Openings.{IsOpenModelOf}
 

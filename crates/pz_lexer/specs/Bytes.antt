@@ -1,6 +1,6 @@
 -- Sorts of bytes, and what a text begins with.
 use Rattle.std.specs.Prelude.{ℕ, List, [], ◌∷◌, Bool, false, ◌||◌, ◌&&◌, ◌==◌, nat_le}
-use Rattle.pz_items.specs.Characters.{byte}
+use Rattle.pz_syntax.specs.pz_items.Characters.{byte}
 
 -- a tab, an LF, a CR or a blank
 abbrev pub is_blank : ℕ → Bool

@@ -1,7 +1,7 @@
 -- Comments: `//` to the end of the line, and `/*` to the next `*/`.
 use Rattle.std.specs.Prelude.{◌≡◌, ℕ, List, [], ◌∷◌, ◌++◌, Bool, true, false, ◌||◌, ◌&&◌, ◌==◌, not}
 use Rattle.std.specs.List.{list_all}
-use Rattle.pz_items.specs.Characters.{byte}
+use Rattle.pz_syntax.specs.pz_items.Characters.{byte}
 use Rattle.pz_lexer.specs.Bytes.{begins}
 
 -- whether a text begins with these two bytes

@@ -1,7 +1,7 @@
 -- Integers and floats.
 use Rattle.std.specs.Prelude.{◌≡◌, ℕ, ◌+◌, ◌*◌, ◌-◌, ◌^◌, ◌<◌, List, [], ◌∷◌, ◌++◌, Bool, true, false, ◌&&◌, ◌==◌, fold}
 use Rattle.std.specs.List.{list_all}
-use Rattle.pz_items.specs.Characters.{byte}
+use Rattle.pz_syntax.specs.pz_items.Characters.{byte}
 use Rattle.pz_lexer.specs.Bytes.{is_digit, is_word, begins}
 
 -- at least one digit, and nothing else

@@ -1,6 +1,6 @@
 -- Lines and columns.
 use Rattle.std.specs.Prelude.{ℕ, ◌+◌, List, [], ◌∷◌, ◌==◌, if◌then◌else◌}
-use Rattle.pz_items.specs.Characters.{byte}
+use Rattle.pz_syntax.specs.pz_items.Characters.{byte}
 use Rattle.pz_syntax.specs.declared.tokens.Pos.{Pos}
 
 -- the place of the first byte

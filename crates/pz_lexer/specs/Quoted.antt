@@ -1,6 +1,6 @@
 -- Strings and characters: items between quotes.
 use Rattle.std.specs.Prelude.{◌≡◌, ℕ, ◌+◌, ◌*◌, ◌-◌, List, [], ◌∷◌, ◌++◌, Bool, true, ◌&&◌, ◌==◌, nat_le, not, Option, Some, None, if◌then◌else◌}
-use Rattle.pz_items.specs.Characters.{byte}
+use Rattle.pz_syntax.specs.pz_items.Characters.{byte}
 
 -- a byte that stands for itself between these quotes: no LF, no `\`, and not the quote
 abbrev pub is_plain : ℕ → ℕ → Bool

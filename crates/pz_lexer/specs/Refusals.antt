@@ -1,7 +1,7 @@
 -- Where a text cannot be cut into pieces.
 use Rattle.std.specs.Prelude.{◌≡◌, ℕ, ◌≤◌, ◌^◌, List, [], ◌∷◌, ◌++◌, Bool, true, false, ◌||◌, ◌==◌, is_some}
 use Rattle.pz_lexer.specs.declared.sorts.Reason.{Reason}
-use Rattle.pz_items.specs.Characters.{byte}
+use Rattle.pz_syntax.specs.pz_items.Characters.{byte}
 use Rattle.pz_lexer.specs.Bytes.{is_blank, is_word, is_digit, is_letter, begins}
 use Rattle.pz_lexer.specs.Spellings.{spelled}
 use Rattle.pz_lexer.specs.Symbols.{symbols}

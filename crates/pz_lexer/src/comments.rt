@@ -1,5 +1,5 @@
 ghost use Rattle.std.specs.Prelude.{◌≡◌, ◌==◌, ◌<◌, ◌+◌, true, ℕ, List, ◌∷◌, length, drop};
-ghost use Rattle.pz_items.specs.Characters.{byte};
+ghost use Rattle.pz_syntax.specs.pz_items.Characters.{byte};
 ghost use Rattle.pz_lexer.specs.Bytes.{begins};
 ghost use Rattle.pz_lexer.specs.Comments.{begins_pair};
 ghost use Rattle.pz_lexer.specs.devices.Reading.{Reads};

@@ -6,7 +6,7 @@ ghost use Rattle.pz_lexer.specs.devices.Cutting.{unmarked_piece};
 
 use crate::bytes::is_blank;
 use crate::sorts::Sort;
-use pz_items::Text;
+use pz_syntax::pz_items::Text;
 use pz_syntax::{Mark, Pos, Token};
 use std::alloc::{AllocError, Global};
 

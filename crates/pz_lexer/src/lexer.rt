@@ -14,7 +14,7 @@ use crate::kept::{Piece, keep, tokens_among};
 use crate::places::{ORIGIN, place_after};
 use crate::read::first_piece;
 use crate::sorts::{Reason, Stop};
-use pz_items::Items;
+use pz_syntax::pz_items::Items;
 use pz_syntax::{Pos, Token};
 use std::alloc::Global;
 

@@ -1,12 +1,12 @@
 ghost use Rattle.std.specs.Prelude.{◌≡◌, ◌==◌, true};
-ghost use Rattle.pz_items.specs.Characters.{byte};
+ghost use Rattle.pz_syntax.specs.pz_items.Characters.{byte};
 ghost use Rattle.pz_lexer.specs.Bytes.{begins};
 ghost use Rattle.pz_lexer.specs.devices.Reading.{Reads};
 
 use crate::bytes::begins_byte;
 use crate::items::{Inside, inside_at};
 use crate::sorts::{Found, Reason, Sort, Stop};
-use pz_items::Shared;
+use pz_syntax::pz_items::Shared;
 use pz_syntax::{Text, TokenKind};
 use std::alloc::Global;
 

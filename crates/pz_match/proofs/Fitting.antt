@@ -5,7 +5,7 @@ use Rattle.std.specs.List.{flat_map}
 use Rattle.std.proofs.lemmas.Bool.{eqb-true, eqb-false, and_parts}
 use Rattle.std.proofs.lemmas.List.{length-map, get_or-map}
 use Rattle.std.proofs.lemmas.List.Elements.{Contains-append_left, Contains-append_right, Contains-get_or}
-use Rattle.pz_copy.specs.Parcels.{ParcelView}
+use Rattle.pz_offer.specs.pz_copy.Parcels.{ParcelView}
 use Rattle.pz_offer.specs.declared.end.End.{End}
 use Rattle.pz_match.specs.declared.offers.Sender.{Sender}
 use Rattle.pz_match.specs.declared.offers.Receiver.{Receiver}

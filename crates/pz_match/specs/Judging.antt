@@ -1,6 +1,6 @@
 -- What a judge says, and what stays of a judge that was asked.
 use Rattle.std.specs.Prelude.{◌≡◌, ℕ, true, List, Contains, if◌then◌else◌}
-use Rattle.pz_copy.specs.Parcels.{ParcelView}
+use Rattle.pz_offer.specs.pz_copy.Parcels.{ParcelView}
 use Rattle.pz_offer.specs.declared.end.End.{End}
 use Rattle.pz_offer.specs.declared.ends.Verdict.{Verdict}
 use Rattle.pz_offer.specs.declared.ends.Verdict.TheVariants.{Yes}

@@ -1,9 +1,9 @@
 ghost use Rattle.std.specs.Prelude.{◌≡◌, ◌+◌, ℕ, List, IfOk};
-ghost use Rattle.pz_copy.specs.Parcels.{ParcelView};
+ghost use Rattle.pz_offer.specs.pz_copy.Parcels.{ParcelView};
 ghost use Rattle.pz_offer.specs.declared.end.End.{End};
 ghost use Rattle.pz_offer.specs.declared.ends.Verdict.{Verdict};
 
-use pz_copy::Parcel;
+use pz_offer::pz_copy::Parcel;
 use pz_offer::{End, Verdict};
 use std::alloc::AllocError;
 

@@ -1,7 +1,7 @@
 ghost use Rattle.std.specs.Prelude.{◌≡◌, IfOk};
 
-use pz_copy::Parcel;
 use pz_offer::End;
+use pz_offer::pz_copy::Parcel;
 use pz_syntax::Name;
 use std::alloc::AllocError;
 

@@ -12,5 +12,7 @@ mod trouble;
 pub use end::End;
 pub use ends::{ReceiveOffer, SendOffer, Verdict};
 pub use place::Place;
+pub use pz_copy;
+pub use pz_copy::{pz_state, pz_value};
 pub use summary::Summary;
 pub use trouble::Trouble;

@@ -1,4 +1,4 @@
-use pz_state::FaultKind;
+use pz_copy::pz_state::FaultKind;
 use pz_syntax::Pos;
 
 /// Why a process cannot do what it is about to do. It names the process by its number, from 0 in the

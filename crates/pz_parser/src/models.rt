@@ -6,9 +6,9 @@ ghost use Rattle.pz_parser_cursor.specs.devices.Device.{Reads};
 ghost use Rattle.pz_parser.specs.devices.Models as spec;
 
 use crate::processes::process_class;
-use pz_items::Items;
 use pz_parser_cursor::{Cursor, Next, Refusal};
 use pz_parser_declarations::{cluster_class, data_class, system};
+use pz_syntax::pz_items::Items;
 use pz_syntax::{Decl, Model};
 use std::alloc::Global;
 

@@ -6,12 +6,12 @@ ghost use Rattle.pz_parser_cursor.specs.devices.Device.{Reads, behind};
 ghost use Rattle.pz_parser_cursor.specs.declared.ahead.Next.TheVariants as n;
 ghost use Rattle.pz_parser.specs.devices.Processes as spec;
 
-use pz_items::Items;
 use pz_parser_cursor::{
     Cursor, Next, Refusal, formal, optional_formal, optional_locals, ports_section,
 };
 use pz_parser_declarations::{messages_section, parent_section, start_section, variables_section};
 use pz_parser_statements::stmts;
+use pz_syntax::pz_items::Items;
 use pz_syntax::{ProcessClass, ProcessMethod};
 use std::alloc::Global;
 

@@ -8,7 +8,7 @@ ghost use Rattle.pz_parser_cursor.specs.declared.ahead.Next.TheVariants as n;
 
 use crate::ahead::Next;
 use crate::{Cursor, Refusal};
-use pz_items::Items;
+use pz_syntax::pz_items::Items;
 use pz_syntax::{Id, VarGroup};
 use std::alloc::Global;
 

@@ -6,9 +6,9 @@ ghost use Rattle.pz_parser_cursor.specs.devices.Device.{Reads};
 ghost use Rattle.pz_parser_declarations.specs.devices.DataClasses as spec;
 
 use crate::sections::{parent_section, variables_section};
-use pz_items::Items;
 use pz_parser_cursor::{Cursor, Next, Refusal, optional_formal, optional_locals};
 use pz_parser_expressions::exprs;
+use pz_syntax::pz_items::Items;
 use pz_syntax::{DataClass, DataMethod};
 use std::alloc::Global;
 

@@ -6,8 +6,8 @@ ghost use Rattle.pz_parser_cursor.specs.devices.Lists as lists;
 ghost use Rattle.pz_parser_cursor.specs.declared.ahead.Next.TheVariants as n;
 ghost use Rattle.pz_parser_declarations.specs.devices.Sections as spec;
 
-use pz_items::Items;
 use pz_parser_cursor::{Cursor, Next, Refusal, optional_names};
+use pz_syntax::pz_items::Items;
 use pz_syntax::{Id, Message};
 use std::alloc::Global;
 

@@ -6,9 +6,9 @@ ghost use Rattle.pz_syntax.specs.ClassView.{start_view};
 ghost use Rattle.pz_parser_cursor.specs.devices.Device.{Reads};
 ghost use Rattle.pz_parser_declarations.specs.devices.Sections as spec;
 
-use pz_items::Items;
 use pz_parser_cursor::{Cursor, Next, Refusal, optional_variables};
 use pz_parser_expressions::exprs;
+use pz_syntax::pz_items::Items;
 use pz_syntax::{Expr, Id, Start, VarGroup};
 use std::alloc::Global;
 

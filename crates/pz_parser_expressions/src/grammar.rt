@@ -14,8 +14,8 @@ ghost use Rattle.pz_parser_expressions.specs.devices.Values.{below};
 ghost use Rattle.pz_parser_expressions.specs.devices.Nests.{Nests};
 
 use crate::Rule;
-use pz_items::{Boxed, Items};
 use pz_parser_cursor::{Cursor, Next, Refusal};
+use pz_syntax::pz_items::{Boxed, Items};
 use pz_syntax::{Expr, ExprForm};
 use std::alloc::Global;
 

@@ -10,8 +10,8 @@ ghost use Rattle.pz_parser_expressions.specs.devices.Nests.{Nests};
 
 use crate::Rule;
 use crate::grammar::Grammar;
-use pz_items::{Boxed, Items, both};
 use pz_parser_cursor::{Cursor, Next, Refusal};
+use pz_syntax::pz_items::{Boxed, Items, both};
 use pz_syntax::{Expr, ExprForm, Id, Pos};
 use std::alloc::Global;
 

@@ -9,8 +9,8 @@ ghost use Rattle.pz_parser_statements.specs.devices.Statements.{below_stmt};
 ghost use Rattle.pz_parser_statements.specs.devices.Nests.{Nests};
 
 use crate::grammar::Grammar;
-use pz_items::Items;
 use pz_parser_cursor::{Cursor, Next, Refusal};
+use pz_syntax::pz_items::Items;
 use pz_syntax::{Stmt, StmtForm};
 use std::alloc::Global;
 

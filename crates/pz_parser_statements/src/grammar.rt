@@ -12,9 +12,9 @@ ghost use Rattle.pz_parser_statements.specs.devices.Nests.{Nests};
 
 use crate::messages::call;
 use crate::single::{block, delay, skip, valued, worded};
-use pz_items::Items;
 use pz_parser_cursor::{Cursor, Next, Refusal};
 use pz_syntax::Stmt;
+use pz_syntax::pz_items::Items;
 use std::alloc::Global;
 
 /// The nesting, and the parser of the statements one construct further in.

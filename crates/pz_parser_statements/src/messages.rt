@@ -10,9 +10,9 @@ ghost use Rattle.pz_parser_statements.specs.devices.Views.{reception_view};
 
 use crate::kept::up_to;
 use crate::single::inner_value;
-use pz_items::{Boxed, Items, both};
 use pz_parser_cursor::{Cursor, Next, Refusal, optional_names};
 use pz_parser_expressions::{arguments, block, optional_arguments};
+use pz_syntax::pz_items::{Boxed, Items, both};
 use pz_syntax::{Expr, Id, Stmt, StmtForm};
 use std::alloc::{AllocError, Global};
 

@@ -14,8 +14,8 @@ ghost use Rattle.pz_parser_statements.specs.devices.Nests.{Nests};
 use crate::grammar::Grammar;
 use crate::kept::up_to;
 use crate::single::inner_value;
-use pz_items::{Boxed, Items, both};
 use pz_parser_cursor::{Cursor, Next, Refusal};
+use pz_syntax::pz_items::{Boxed, Items, both};
 use pz_syntax::{Expr, Stmt, StmtForm};
 use std::alloc::Global;
 

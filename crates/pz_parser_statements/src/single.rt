@@ -9,9 +9,9 @@ ghost use Rattle.pz_parser_expressions.specs.devices.Values.{below};
 ghost use Rattle.pz_parser_statements.specs.devices.Statements as spec;
 
 use crate::messages::{receive, send};
-use pz_items::Boxed;
 use pz_parser_cursor::{Cursor, Next, Refusal};
 use pz_parser_expressions::value;
+use pz_syntax::pz_items::Boxed;
 use pz_syntax::{Expr, Stmt, StmtForm};
 use std::alloc::Global;
 

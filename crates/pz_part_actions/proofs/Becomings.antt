@@ -1,11 +1,11 @@
 -- What has become of a process, as a whole, and at home.
 use Rattle.std.proofs.Common.{◌≡◌, List, [], ◌∷◌, sym, ap, ◌∙◌}
-use Rattle.pz_syntax.specs.Statements.{no_statements, then}
-use Rattle.pz_classes.specs.CheckedView.{checked_model}
+use Rattle.pz_classes_code.specs.pz_syntax.Statements.{no_statements, then}
+use Rattle.pz_part_queries.specs.pz_classes.CheckedView.{checked_model}
 use Rattle.pz_classes_code.specs.declared.step.Step as code
 use Rattle.pz_classes_code.specs.StepView as step
-use Rattle.pz_state.specs.States.{StateView}
-use Rattle.pz_state.specs.Marks.{Seen}
+use Rattle.pz_rules.specs.pz_state.States.{StateView}
+use Rattle.pz_rules.specs.pz_state.Marks.{Seen}
 use Rattle.pz_rules.specs.declared.limits.Edition.{Edition}
 use Rattle.pz_rules.specs.declared.term.Term.{Term as Part}
 use Rattle.pz_rules.specs.declared.term.Term.TheVariants as form
@@ -16,8 +16,8 @@ use Rattle.pz_rules.specs.Opening.{opened_all}
 use Rattle.pz_rules.specs.InternalActions.{before_loop}
 use Rattle.pz_rules.specs.View.{term_view}
 use Rattle.pz_rules.specs.Becoming.{Became}
-use Rattle.pz_part_opening.specs.declared.home.Home.{Home}
-use Rattle.pz_part_opening.specs.Homes.{home_view}
+use Rattle.pz_term_around.specs.pz_part_opening.declared.home.Home.{Home}
+use Rattle.pz_term_around.specs.pz_part_opening.Homes.{home_view}
 use Rattle.pz_part_queries.specs.declared.standpoint.Standpoint.{Standpoint}
 use Rattle.pz_part_actions.specs.devices.Standing.{seen_there}
 use Rattle.pz_part_actions.proofs.Forms.{shows_Seq}

@@ -1,14 +1,14 @@
 -- The frame of a method that is called.
 use Rattle.std.proofs.Common.{◌≡◌, ◌<◌, ℕ, List, length, Result, Ok, Err, subst, ap, ◌∙◌}
-use Rattle.pz_syntax.specs.declared.tokens.Pos.{Pos}
-use Rattle.pz_syntax.specs.declared.names.Id.{Id}
-use Rattle.pz_syntax.specs.Statements.{call}
-use Rattle.pz_value.specs.declared.value.Value.{Value}
+use Rattle.pz_classes_code.specs.pz_syntax.declared.tokens.Pos.{Pos}
+use Rattle.pz_classes_code.specs.pz_syntax.declared.names.Id.{Id}
+use Rattle.pz_classes_code.specs.pz_syntax.Statements.{call}
+use Rattle.pz_classes_code.specs.pz_value.declared.value.Value.{Value}
 use Rattle.pz_classes_code.specs.declared.slot.Slot.{Slot}
-use Rattle.pz_classes.specs.FitBodies.{how_many}
-use Rattle.pz_state.specs.States.{IsLeastFree, opened as with_frame}
-use Rattle.pz_state.specs.Marks.{Seen, changed}
-use Rattle.pz_offer.specs.declared.trouble.Trouble.{Trouble}
+use Rattle.pz_rules.specs.pz_classes_rules.FitBodies.{how_many}
+use Rattle.pz_rules.specs.pz_state.States.{IsLeastFree, opened as with_frame}
+use Rattle.pz_rules.specs.pz_state.Marks.{Seen, changed}
+use Rattle.pz_rules.specs.pz_offer.declared.trouble.Trouble.{Trouble}
 use Rattle.pz_rules.specs.declared.term.Term.{Term as Part}
 use Rattle.pz_rules.specs.Terms.{Codes, Steps, leaf, height}
 use Rattle.pz_rules.specs.Settings.{Context, Process, Home, home_of}

@@ -1,9 +1,9 @@
 -- What the forms of statements and terms of the code stand for.
 use Rattle.std.proofs.Common.{◌≡◌, ℕ, List, Option, ap, ◌∙◌, rules}
 use Rattle.std.specs.Option.{option_map}
-use Rattle.pz_syntax.specs.declared.tokens.Pos.{Pos}
-use Rattle.pz_syntax.specs.declared.names.Id.{Id}
-use Rattle.pz_syntax.specs.Statements.{skip, delay, conditional, send, receive}
+use Rattle.pz_classes_code.specs.pz_syntax.declared.tokens.Pos.{Pos}
+use Rattle.pz_classes_code.specs.pz_syntax.declared.names.Id.{Id}
+use Rattle.pz_classes_code.specs.pz_syntax.Statements.{skip, delay, conditional, send, receive}
 use Rattle.pz_classes_code.specs.declared.code.Code.{Code}
 use Rattle.pz_classes_code.specs.declared.slot.Slot.{Slot}
 use Rattle.pz_classes_code.specs.declared.step.Step.{Step}
@@ -12,7 +12,7 @@ use Rattle.pz_classes_code.specs.declared.step.StepForm.TheVariants as form
 use Rattle.pz_classes_code.specs.declared.step.StepForm.TheFolds.{the_lemmas}
 use Rattle.pz_classes_code.specs.CodeView as code
 use Rattle.pz_classes_code.specs.StepView as step
-use Rattle.pz_state.specs.declared.state.FrameId.{FrameId}
+use Rattle.pz_rules.specs.pz_state.declared.state.FrameId.{FrameId}
 use Rattle.pz_rules.specs.declared.term.Term.{Term}
 use Rattle.pz_rules.specs.declared.term.Term.TheVariants as term
 use Rattle.pz_rules.specs.declared.term.Term.TheFolds as folds

@@ -3,25 +3,25 @@ use Rattle.std.proofs.Common.{◌≡◌, ◌≤◌, ◌<◌, ◌⊎◌, inl, inr
 use Rattle.std.specs.Prelude.{IfOk}
 use Rattle.std.proofs.lemmas.Bool.{cases_lt}
 use Rattle.std.proofs.lemmas.Result.{IfOk-weaker}
-use Rattle.pz_syntax.specs.declared.tokens.Pos.{Pos}
-use Rattle.pz_syntax.specs.declared.names.Id.{Id}
-use Rattle.pz_syntax.specs.Expressions.{Part}
-use Rattle.pz_syntax.specs.Statements.{send, receive}
-use Rattle.pz_value.specs.declared.value.ClassId.{ClassId}
-use Rattle.pz_value.specs.declared.value.Value.{Value}
+use Rattle.pz_classes_code.specs.pz_syntax.declared.tokens.Pos.{Pos}
+use Rattle.pz_classes_code.specs.pz_syntax.declared.names.Id.{Id}
+use Rattle.pz_classes_code.specs.pz_syntax.Expressions.{Part}
+use Rattle.pz_classes_code.specs.pz_syntax.Statements.{send, receive}
+use Rattle.pz_classes_code.specs.pz_value.declared.value.ClassId.{ClassId}
+use Rattle.pz_classes_code.specs.pz_value.declared.value.Value.{Value}
 use Rattle.pz_classes_code.specs.declared.code.Code as code
 use Rattle.pz_classes_code.specs.declared.slot.Slot.{Slot}
 use Rattle.pz_classes_code.specs.CodeView.{part_view}
-use Rattle.pz_state.specs.States.{StateView}
-use Rattle.pz_state.specs.Marks.{Seen, changed}
-use Rattle.pz_state.specs.declared.fault.FaultKind.TheVariants.{StoreFull}
-use Rattle.pz_state.specs.States.{object_limit}
-use Rattle.pz_copy.specs.Parcels.{ParcelView}
-use Rattle.pz_copy.specs.Packing.{IsParcelOf}
-use Rattle.pz_copy.specs.Unpacking.{unpacked, unpacked_values}
-use Rattle.pz_copy.specs.declared.unpacking.UnpackError.{UnpackError}
-use Rattle.pz_copy.specs.declared.unpacking.UnpackError.TheVariants as unpacking
-use Rattle.pz_offer.specs.declared.trouble.Trouble.{Trouble}
+use Rattle.pz_rules.specs.pz_state.States.{StateView}
+use Rattle.pz_rules.specs.pz_state.Marks.{Seen, changed}
+use Rattle.pz_rules.specs.pz_state.declared.fault.FaultKind.TheVariants.{StoreFull}
+use Rattle.pz_rules.specs.pz_state.States.{object_limit}
+use Rattle.pz_rules.specs.pz_copy.Parcels.{ParcelView}
+use Rattle.pz_rules.specs.pz_copy.Packing.{IsParcelOf}
+use Rattle.pz_rules.specs.pz_copy.Unpacking.{unpacked, unpacked_values}
+use Rattle.pz_rules.specs.pz_copy.declared.unpacking.UnpackError.{UnpackError}
+use Rattle.pz_rules.specs.pz_copy.declared.unpacking.UnpackError.TheVariants as unpacking
+use Rattle.pz_rules.specs.pz_offer.declared.trouble.Trouble.{Trouble}
 use Rattle.pz_rules.specs.Terms.{Code, Term, leaf}
 use Rattle.pz_rules.specs.Settings.{Context, Process, in_state}
 use Rattle.pz_eval_binding.specs.Binding.{set_slots}

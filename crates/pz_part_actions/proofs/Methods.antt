@@ -3,11 +3,11 @@ use Rattle.std.proofs.Common.{◌≡◌, ℕ, suc, List, [], ◌∷◌, length, 
 use Rattle.std.specs.List.{slice_get}
 use Rattle.std.proofs.Math.Logic.{∥∥₁_elim}
 use Rattle.std.specs.Coded.{le_prop}
-use Rattle.pz_syntax.specs.declared.tokens.Pos.{Pos}
-use Rattle.pz_syntax.specs.declared.names.Id.{Id}
-use Rattle.pz_syntax.specs.Statements.{call}
-use Rattle.pz_syntax.specs.Classes.{ModelTree}
-use Rattle.pz_value.specs.declared.value.ClassId.{ClassId}
+use Rattle.pz_classes_code.specs.pz_syntax.declared.tokens.Pos.{Pos}
+use Rattle.pz_classes_code.specs.pz_syntax.declared.names.Id.{Id}
+use Rattle.pz_classes_code.specs.pz_syntax.Statements.{call}
+use Rattle.pz_classes_code.specs.pz_syntax.Classes.{ModelTree}
+use Rattle.pz_classes_code.specs.pz_value.declared.value.ClassId.{ClassId}
 use Rattle.pz_classes_code.specs.declared.body.Body.{Body}
 use Rattle.pz_classes_code.specs.declared.body.Body.TheVariants as form
 use Rattle.pz_classes_code.specs.declared.code.Code.{Code}
@@ -15,16 +15,16 @@ use Rattle.pz_classes_code.specs.declared.slot.Slot.{Slot}
 use Rattle.pz_classes_code.specs.declared.step.Step.{Step}
 use Rattle.pz_classes_code.specs.CodeView.{list_view}
 use Rattle.pz_classes_code.specs.StepView.{sequence_view}
-use Rattle.pz_classes.specs.declared.classes.Classes.{Classes}
-use Rattle.pz_classes.specs.declared.method_id.Counts.TheVariants.{Process}
-use Rattle.pz_classes.specs.declared.method_id.MethodId.{MethodId}
-use Rattle.pz_classes.specs.Bodies.{BodyTree, data_body, process_body, bodies}
-use Rattle.pz_classes.specs.BodyView.{body_view}
-use Rattle.pz_classes.specs.FitBodies.{how_many}
-use Rattle.pz_classes.specs.MethodBodies.{HasBody, process_method_body}
-use Rattle.pz_classes.specs.Methods.{process_method}
-use Rattle.pz_classes.specs.Tables.{HasMethod}
-use Rattle.pz_classes.specs.devices.Rows.{AreClasses}
+use Rattle.pz_part_queries.specs.pz_classes.declared.classes.Classes.{Classes}
+use Rattle.pz_rules.specs.pz_classes_rules.declared.method_id.Counts.TheVariants.{Process}
+use Rattle.pz_rules.specs.pz_classes_rules.declared.method_id.MethodId.{MethodId}
+use Rattle.pz_rules.specs.pz_classes_rules.Bodies.{BodyTree, data_body, process_body, bodies}
+use Rattle.pz_rules.specs.pz_classes_rules.BodyView.{body_view}
+use Rattle.pz_rules.specs.pz_classes_rules.FitBodies.{how_many}
+use Rattle.pz_rules.specs.pz_classes_rules.MethodBodies.{HasBody, process_method_body}
+use Rattle.pz_rules.specs.pz_classes_rules.Methods.{process_method}
+use Rattle.pz_part_queries.specs.pz_classes.Tables.{HasMethod}
+use Rattle.pz_part_queries.specs.pz_classes.devices.Rows.{AreClasses}
 use Rattle.pz_rules.specs.Terms.{leaf}
 use Rattle.pz_rules.specs.Methods.{IsMethod}
 use Rattle.pz_part_queries.specs.declared.standpoint.Standpoint.{Standpoint}

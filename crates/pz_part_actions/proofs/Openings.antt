@@ -1,9 +1,9 @@
 -- What opens for a part that acts, as a part of what that becomes.
 use Rattle.std.proofs.Common.{◌≡◌, ◌<◌, ℕ, suc, Result, Ok, Err, subst, sym, ap, ◌∙◌, arith}
-use Rattle.pz_syntax.specs.declared.tokens.Pos.{Pos}
-use Rattle.pz_state.specs.Marks.{Seen}
-use Rattle.pz_offer.specs.declared.trouble.Trouble.{Trouble}
-use Rattle.pz_offer.specs.declared.trouble.Trouble.TheVariants.{High}
+use Rattle.pz_classes_code.specs.pz_syntax.declared.tokens.Pos.{Pos}
+use Rattle.pz_rules.specs.pz_state.Marks.{Seen}
+use Rattle.pz_rules.specs.pz_offer.declared.trouble.Trouble.{Trouble}
+use Rattle.pz_rules.specs.pz_offer.declared.trouble.Trouble.TheVariants.{High}
 use Rattle.pz_rules.specs.declared.term.Term.{Term as Part}
 use Rattle.pz_rules.specs.Terms.{Term, height}
 use Rattle.pz_rules.specs.Settings.{Context, Process}

@@ -1,15 +1,15 @@
 -- What each statement that acts by itself becomes.
 use Rattle.std.proofs.Common.{◌≡◌, ℕ, Bool, Result, Ok, Err, refl, sym, subst, ap, ◌∙◌}
 use Rattle.std.specs.Prelude.{IfOk}
-use Rattle.pz_syntax.specs.declared.tokens.Pos.{Pos}
-use Rattle.pz_syntax.specs.Expressions.{written}
-use Rattle.pz_syntax.specs.Statements.{skip, delay, block, conditional, repeated, value, StatementPart}
-use Rattle.pz_value.specs.declared.value.ClassId.{ClassId}
-use Rattle.pz_value.specs.declared.value.Value.{Value}
+use Rattle.pz_classes_code.specs.pz_syntax.declared.tokens.Pos.{Pos}
+use Rattle.pz_classes_code.specs.pz_syntax.Expressions.{written}
+use Rattle.pz_classes_code.specs.pz_syntax.Statements.{skip, delay, block, conditional, repeated, value, StatementPart}
+use Rattle.pz_classes_code.specs.pz_value.declared.value.ClassId.{ClassId}
+use Rattle.pz_classes_code.specs.pz_value.declared.value.Value.{Value}
 use Rattle.pz_classes_code.specs.declared.slot.Slot.{Slot}
-use Rattle.pz_state.specs.States.{StateView}
-use Rattle.pz_state.specs.Marks.{Seen}
-use Rattle.pz_offer.specs.declared.trouble.Trouble.{Trouble}
+use Rattle.pz_rules.specs.pz_state.States.{StateView}
+use Rattle.pz_rules.specs.pz_state.Marks.{Seen}
+use Rattle.pz_rules.specs.pz_offer.declared.trouble.Trouble.{Trouble}
 use Rattle.pz_rules.specs.declared.action.Kind.{Kind}
 use Rattle.pz_rules.specs.declared.term.Term as code
 use Rattle.pz_rules.specs.declared.term.Term.TheVariants as form

@@ -1,6 +1,6 @@
 -- The statements of the code, each with its place.
 use Rattle.std.proofs.Common.{◌≡◌, refl, sym, ap, ◌∙◌, rules}
-use Rattle.pz_syntax.specs.declared.tokens.Pos.{Pos}
+use Rattle.pz_classes_code.specs.pz_syntax.declared.tokens.Pos.{Pos}
 use Rattle.pz_classes_code.specs.declared.step.Step.{Step}
 use Rattle.pz_classes_code.specs.declared.step.StepForm.{StepForm}
 use Rattle.pz_classes_code.specs.declared.step.StepForm.TheOpen.{StepForm-F}

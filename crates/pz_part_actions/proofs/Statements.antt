@@ -1,7 +1,7 @@
 -- Parts that act are statements, each with its place.
 use Rattle.std.proofs.Common.{◌≡◌, ℕ, List, refl, sym, subst, ap, ◌∙◌}
-use Rattle.pz_syntax.specs.declared.tokens.Pos.{Pos}
-use Rattle.pz_copy.specs.Parcels.{ParcelView}
+use Rattle.pz_classes_code.specs.pz_syntax.declared.tokens.Pos.{Pos}
+use Rattle.pz_rules.specs.pz_copy.Parcels.{ParcelView}
 use Rattle.pz_classes_code.specs.declared.step.Step.{Step}
 use Rattle.pz_classes_code.specs.StepView.{view}
 use Rattle.pz_rules.specs.declared.action.Kind.{Kind}

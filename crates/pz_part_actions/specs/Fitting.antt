@@ -1,9 +1,9 @@
 -- Parts that fit the process class in which they stand.
 use Rattle.std.specs.Prelude.{ℕ}
-use Rattle.pz_syntax.specs.Classes.{ModelTree}
-use Rattle.pz_value.specs.declared.value.ClassId.{ClassId}
-use Rattle.pz_classes.specs.Tables.{HasClass}
-use Rattle.pz_classes.specs.SoundBodies.{BodiesFit}
+use Rattle.pz_classes_code.specs.pz_syntax.Classes.{ModelTree}
+use Rattle.pz_classes_code.specs.pz_value.declared.value.ClassId.{ClassId}
+use Rattle.pz_part_queries.specs.pz_classes.Tables.{HasClass}
+use Rattle.pz_rules.specs.pz_classes_rules.SoundBodies.{BodiesFit}
 use Rattle.pz_rules.specs.Terms.{Term}
 use Rattle.pz_rules.specs.Fitting.{TermFits}
 use Rattle.pz_part_queries.specs.declared.standpoint.Standpoint.{Standpoint}

@@ -1,7 +1,7 @@
 -- Where in the text the statement of a part stands.
 use Rattle.std.specs.Prelude.{◌≡◌}
-use Rattle.pz_syntax.specs.declared.tokens.Pos.{Pos}
-use Rattle.pz_syntax.specs.Statements.{skip, delay, bracketed, block, guarded, parallel, select, conditional, repeated, abort, interrupt, send, receive, call, assignment, value}
+use Rattle.pz_classes_code.specs.pz_syntax.declared.tokens.Pos.{Pos}
+use Rattle.pz_classes_code.specs.pz_syntax.Statements.{skip, delay, bracketed, block, guarded, parallel, select, conditional, repeated, abort, interrupt, send, receive, call, assignment, value}
 use Rattle.pz_rules.specs.Terms.{Step, Term, leaf, wait}
 
 -- of a statement: its first token

@@ -1,19 +1,19 @@
 // The call of a method. The only error is want of memory.
 
 ghost use Rattle.std.specs.Prelude.{◌≡◌, ℕ, List, length, All, IfOk, OnOk};
-ghost use Rattle.pz_syntax.specs.Classes.{ModelTree};
-ghost use Rattle.pz_syntax.specs.Statements as statements;
+ghost use Rattle.pz_classes_code.specs.pz_syntax.Classes.{ModelTree};
+ghost use Rattle.pz_classes_code.specs.pz_syntax.Statements as statements;
 ghost use Rattle.pz_classes_code.specs.CodeView.{list_view};
 ghost use Rattle.pz_classes_code.specs.StepView.{sequence_view};
-ghost use Rattle.pz_state.specs.References.{RefersWithin};
-ghost use Rattle.pz_classes.specs.CheckedView.{checked_model};
-ghost use Rattle.pz_classes.specs.devices.Rows.{AreClasses};
+ghost use Rattle.pz_rules.specs.pz_state.References.{RefersWithin};
+ghost use Rattle.pz_part_queries.specs.pz_classes.CheckedView.{checked_model};
+ghost use Rattle.pz_part_queries.specs.pz_classes.devices.Rows.{AreClasses};
 ghost use Rattle.pz_rules.specs.Terms as terms;
 ghost use Rattle.pz_rules.specs.Methods.{IsMethod};
 ghost use Rattle.pz_rules.specs.InternalActions.{entered};
 ghost use Rattle.pz_rules.specs.Opening.{opened_all};
-ghost use Rattle.pz_eval.specs.Known.{AreKnown};
-ghost use Rattle.pz_part_opening.specs.Homes.{home_view};
+ghost use Rattle.pz_part_queries.specs.pz_eval.Known.{AreKnown};
+ghost use Rattle.pz_term_around.specs.pz_part_opening.Homes.{home_view};
 ghost use Rattle.pz_part_queries.specs.Standpoints.{Knows};
 ghost use Rattle.pz_part_actions.specs.Becoming.{process_left, HasPerformed, IsBuiltLow};
 ghost use Rattle.pz_part_actions.specs.Fitting.{FitsHere};
@@ -23,17 +23,17 @@ ghost use Rattle.pz_part_actions.specs.devices.Openings.{OpensAs};
 
 use crate::evaluating::evaluate_all;
 use crate::opening::open_low;
-use pz_classes::{Body, Classes};
+use pz_classes_code::pz_items::{Items, Shared};
+use pz_classes_code::pz_syntax::{Id, Pos};
+use pz_classes_code::pz_value::{ClassId, Value};
 use pz_classes_code::{Code, Slot, Step};
-use pz_items::{Items, Shared};
-use pz_offer::Trouble;
-use pz_part_opening::Home;
 use pz_part_queries::Standpoint;
+use pz_part_queries::pz_classes::{Body, Classes};
 use pz_rules::Term;
-use pz_state::{FrameId, State};
-use pz_syntax::{Id, Pos};
-use pz_term_residual::{framed, set_inputs};
-use pz_value::{ClassId, Value};
+use pz_rules::pz_offer::Trouble;
+use pz_rules::pz_state::{FrameId, State};
+use pz_term_around::pz_part_opening::Home;
+use pz_term_around::{framed, set_inputs};
 use std::alloc::{AllocError, Global};
 
 /// The body of a method: how many locals it has, and its statements.

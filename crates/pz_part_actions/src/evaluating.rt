@@ -1,23 +1,23 @@
 // Evaluations of a statement whose effects stay. The only error is want of memory.
 
 ghost use Rattle.std.specs.Prelude.{◌≡◌, ℕ, length, All, IfOk};
-ghost use Rattle.pz_syntax.specs.Classes.{ModelTree};
-ghost use Rattle.pz_syntax.specs.Expressions.{written};
+ghost use Rattle.pz_classes_code.specs.pz_syntax.Classes.{ModelTree};
+ghost use Rattle.pz_classes_code.specs.pz_syntax.Expressions.{written};
 ghost use Rattle.pz_classes_code.specs.CodeView.{view, list_view, part_view};
-ghost use Rattle.pz_state.specs.References.{RefersWithin};
+ghost use Rattle.pz_rules.specs.pz_state.References.{RefersWithin};
 ghost use Rattle.pz_rules.specs.Evaluations.{Gives, GivesAll};
-ghost use Rattle.pz_eval.specs.Known.{AreKnown};
+ghost use Rattle.pz_part_queries.specs.pz_eval.Known.{AreKnown};
 ghost use Rattle.pz_part_queries.specs.Standpoints.{Knows, seen_from};
 ghost use Rattle.pz_part_actions.specs.devices.Effects.{Tested, Ran, ran};
 
 use pz_classes_code::Code;
-use pz_eval::{eval, eval_list};
-use pz_items::{Items, Shared};
-use pz_offer::Trouble;
+use pz_classes_code::pz_items::{Items, Shared};
+use pz_classes_code::pz_syntax::Pos;
+use pz_classes_code::pz_value::Value;
+use pz_part_queries::pz_eval::{eval, eval_list};
 use pz_part_queries::{Standpoint, allowance, truth_of, value_or_trouble, values_or_trouble};
-use pz_state::{FrameId, State};
-use pz_syntax::Pos;
-use pz_value::Value;
+use pz_rules::pz_offer::Trouble;
+use pz_rules::pz_state::{FrameId, State};
 use std::alloc::{AllocError, Global};
 
 /// The value of an expression of the statement at this place, or the trouble of it.

@@ -1,26 +1,26 @@
 //! What a send leaves of the part that it is. The only error is want of memory.
 
 ghost use Rattle.std.specs.Prelude.{◌≡◌, ℕ, List, IfOk, OnOk};
-ghost use Rattle.pz_syntax.specs.Classes.{ModelTree};
-ghost use Rattle.pz_syntax.specs.declared.tokens.Pos.{Pos as Position};
+ghost use Rattle.pz_classes_code.specs.pz_syntax.Classes.{ModelTree};
+ghost use Rattle.pz_classes_code.specs.pz_syntax.declared.tokens.Pos.{Pos as Position};
 ghost use Rattle.pz_classes_code.specs.CodeView.{part_view};
-ghost use Rattle.pz_copy.specs.Parcels.{ParcelView};
+ghost use Rattle.pz_rules.specs.pz_copy.Parcels.{ParcelView};
 ghost use Rattle.pz_rules.specs.Messages.{Sends, Hands};
 ghost use Rattle.pz_rules.specs.View.{term_view};
-ghost use Rattle.pz_eval.specs.Known.{AreKnown};
+ghost use Rattle.pz_part_queries.specs.pz_eval.Known.{AreKnown};
 ghost use Rattle.pz_part_queries.specs.Standpoints.{Knows, seen_from};
 ghost use Rattle.pz_rules.specs.Acting.{IsSend};
 ghost use Rattle.pz_part_actions.specs.Becoming.{done_left};
 ghost use Rattle.pz_part_actions.specs.devices.Effects.{RunsBoth};
 
 use crate::evaluating::run_part;
+use pz_classes_code::pz_items::{Items, Shared};
+use pz_classes_code::pz_syntax::Pos;
 use pz_classes_code::{Code, StepForm};
-use pz_items::{Items, Shared};
-use pz_offer::Trouble;
 use pz_part_queries::Standpoint;
 use pz_rules::Term;
-use pz_state::{FrameId, State};
-use pz_syntax::Pos;
+use pz_rules::pz_offer::Trouble;
+use pz_rules::pz_state::{FrameId, State};
 use std::alloc::{AllocError, Global};
 
 /// The arguments and then the block.

@@ -14,5 +14,7 @@ mod testing;
 pub use handing::hand;
 pub use parts::{done_by, pos_of};
 pub use performing::perform;
+pub use pz_part_queries;
+pub use pz_term_around::pz_part_opening;
 pub use standing::at_home;
 pub use taking::take;

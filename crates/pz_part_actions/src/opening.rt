@@ -5,19 +5,19 @@ ghost use Rattle.pz_classes_code.specs.StepView.{sequence_view};
 ghost use Rattle.pz_rules.specs.Terms.{height};
 ghost use Rattle.pz_rules.specs.Opening.{opened_all, opened_part};
 ghost use Rattle.pz_rules.specs.View.{term_view};
-ghost use Rattle.pz_part_opening.specs.Homes.{home_view};
+ghost use Rattle.pz_term_around.specs.pz_part_opening.Homes.{home_view};
 ghost use Rattle.pz_part_actions.specs.Becoming.{IsBuiltLow};
 ghost use Rattle.pz_part_actions.specs.devices.Parts.{otherwise_view};
 ghost use Rattle.pz_part_actions.specs.devices.Openings.{OpensAs};
 
 use pz_classes_code::Step;
-use pz_items::{Items, Shared};
-use pz_offer::Trouble;
-use pz_part_opening::{Home, open_all, stays_within};
+use pz_classes_code::pz_items::{Items, Shared};
+use pz_classes_code::pz_syntax::Pos;
 use pz_part_queries::Standpoint;
 use pz_rules::Term;
-use pz_state::State;
-use pz_syntax::Pos;
+use pz_rules::pz_offer::Trouble;
+use pz_rules::pz_state::State;
+use pz_term_around::pz_part_opening::{Home, open_all, stays_within};
 use std::alloc::{AllocError, Global};
 
 /// The term of statements in a sequence, unless it is higher than a term may be: that is known before

@@ -1,14 +1,14 @@
 // A part before and after it has acted.
 ghost use Rattle.std.specs.Prelude.{◌≡◌};
-ghost use Rattle.pz_syntax.specs.declared.tokens.Pos.{Pos as StatementPos};
-ghost use Rattle.pz_state.specs.States.{StateView};
+ghost use Rattle.pz_classes_code.specs.pz_syntax.declared.tokens.Pos.{Pos as StatementPos};
+ghost use Rattle.pz_rules.specs.pz_state.States.{StateView};
 ghost use Rattle.pz_rules.specs.View.{term_view};
 ghost use Rattle.pz_part_actions.specs.Becoming.{process_left, done_left};
 ghost use Rattle.pz_part_actions.specs.StatementPlaces.{IsFrom};
 
-use pz_offer::Trouble;
+use pz_classes_code::pz_syntax::Pos;
 use pz_rules::Term;
-use pz_syntax::Pos;
+use pz_rules::pz_offer::Trouble;
 
 /// The place in the text of the statement that a part is. Takes no memory.
 pub fn pos_of(part: &Term) -> Pos

@@ -1,19 +1,19 @@
 //! What a part becomes by itself. The only error is want of memory.
 
 ghost use Rattle.std.specs.Prelude.{◌≡◌, ◌≤◌, ℕ, IfOk, OnOk};
-ghost use Rattle.pz_syntax.specs.Classes.{ModelTree};
-ghost use Rattle.pz_syntax.specs.declared.tokens.Pos.{Pos as Position};
-ghost use Rattle.pz_syntax.specs.Statements as statements;
-ghost use Rattle.pz_classes.specs.CheckedView.{checked_model};
+ghost use Rattle.pz_classes_code.specs.pz_syntax.Classes.{ModelTree};
+ghost use Rattle.pz_classes_code.specs.pz_syntax.declared.tokens.Pos.{Pos as Position};
+ghost use Rattle.pz_classes_code.specs.pz_syntax.Statements as statements;
+ghost use Rattle.pz_part_queries.specs.pz_classes.CheckedView.{checked_model};
 ghost use Rattle.pz_classes_code.specs.CodeView.{view as code_view, list_view};
 ghost use Rattle.pz_classes_code.specs.StepView.{view};
-ghost use Rattle.pz_state.specs.States.{StateView};
+ghost use Rattle.pz_rules.specs.pz_state.States.{StateView};
 ghost use Rattle.pz_rules.specs.declared.action.Kind.{Kind};
 ghost use Rattle.pz_rules.specs.Terms as terms;
 ghost use Rattle.pz_rules.specs.Terms.{height};
 ghost use Rattle.pz_rules.specs.InternalActions.{Can};
 ghost use Rattle.pz_rules.specs.View.{term_view};
-ghost use Rattle.pz_eval.specs.Known.{AreKnown};
+ghost use Rattle.pz_part_queries.specs.pz_eval.Known.{AreKnown};
 ghost use Rattle.pz_part_queries.specs.Standpoints.{Knows, seen_from};
 ghost use Rattle.pz_rules.specs.Acting.{IsActing};
 ghost use Rattle.pz_part_actions.specs.Becoming.{process_left, done_left, HasPerformed, IsBuiltLow};
@@ -25,13 +25,13 @@ use crate::calling::perform_call;
 use crate::evaluating::{evaluate, run, without_value};
 use crate::standing::at_home;
 use crate::testing::{perform_if, perform_while};
+use pz_classes_code::pz_syntax::Pos;
 use pz_classes_code::{Code, Step, StepForm};
-use pz_offer::Trouble;
-use pz_part_opening::Home;
 use pz_part_queries::Standpoint;
 use pz_rules::Term;
-use pz_state::{FrameId, State};
-use pz_syntax::Pos;
+use pz_rules::pz_offer::Trouble;
+use pz_rules::pz_state::{FrameId, State};
+use pz_term_around::pz_part_opening::Home;
 use std::alloc::{AllocError, Global};
 
 /// Nothing is left, unless there is a trouble.

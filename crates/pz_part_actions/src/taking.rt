@@ -1,33 +1,33 @@
 //! What a receive leaves of the part that it is. The only error is want of memory.
 
 ghost use Rattle.std.specs.Prelude.{◌≡◌, ℕ, List, length, All, Option, IfOk, OnOk};
-ghost use Rattle.pz_syntax.specs.declared.tokens.Pos.{Pos as Position};
-ghost use Rattle.pz_syntax.specs.declared.names.Id.{Id};
-ghost use Rattle.pz_syntax.specs.Classes.{ModelTree};
-ghost use Rattle.pz_syntax.specs.Statements as statements;
+ghost use Rattle.pz_classes_code.specs.pz_syntax.declared.tokens.Pos.{Pos as Position};
+ghost use Rattle.pz_classes_code.specs.pz_syntax.declared.names.Id.{Id};
+ghost use Rattle.pz_classes_code.specs.pz_syntax.Classes.{ModelTree};
+ghost use Rattle.pz_classes_code.specs.pz_syntax.Statements as statements;
 ghost use Rattle.pz_classes_code.specs.CodeView.{part_view};
-ghost use Rattle.pz_state.specs.References.{RefersWithin};
+ghost use Rattle.pz_rules.specs.pz_state.References.{RefersWithin};
 ghost use Rattle.pz_rules.specs.Terms as terms;
 ghost use Rattle.pz_eval_binding.specs.Binding as slots;
 ghost use Rattle.pz_rules.specs.Messages.{Receives, Takes, variables_of};
 ghost use Rattle.pz_rules.specs.View.{term_view};
-ghost use Rattle.pz_eval.specs.Known.{AreKnown};
+ghost use Rattle.pz_part_queries.specs.pz_eval.Known.{AreKnown};
 ghost use Rattle.pz_part_queries.specs.Standpoints.{Knows, seen_from};
 ghost use Rattle.pz_rules.specs.Acting.{IsReceive};
 ghost use Rattle.pz_part_actions.specs.Becoming.{done_left};
 ghost use Rattle.pz_part_actions.specs.devices.Effects.{Ran};
 
 use crate::evaluating::run_part;
+use pz_classes_code::pz_items::{Boxed, Items, Shared};
+use pz_classes_code::pz_syntax::Pos;
+use pz_classes_code::pz_value::Value;
 use pz_classes_code::{Code, Slot, StepForm};
-use pz_copy::{Parcel, UnpackError, unpack};
 use pz_eval_binding::set_slots;
-use pz_items::{Boxed, Items, Shared};
-use pz_offer::Trouble;
 use pz_part_queries::Standpoint;
 use pz_rules::Term;
-use pz_state::{FaultKind, FrameId, State};
-use pz_syntax::Pos;
-use pz_value::Value;
+use pz_rules::pz_copy::{Parcel, UnpackError, unpack};
+use pz_rules::pz_offer::Trouble;
+use pz_rules::pz_state::{FaultKind, FrameId, State};
 use std::alloc::{AllocError, Global};
 
 /// The variables of a receive; none without brackets.

@@ -1,15 +1,15 @@
 // What a test decides: an `if` and a `while`. The only error is want of memory.
 
 ghost use Rattle.std.specs.Prelude.{◌≡◌, ℕ, IfOk, OnOk};
-ghost use Rattle.pz_syntax.specs.Statements as statements;
+ghost use Rattle.pz_classes_code.specs.pz_syntax.Statements as statements;
 ghost use Rattle.pz_classes_code.specs.CodeView as code;
 ghost use Rattle.pz_classes_code.specs.StepView.{view, sequence_view};
-ghost use Rattle.pz_classes.specs.CheckedView.{checked_model};
+ghost use Rattle.pz_part_queries.specs.pz_classes.CheckedView.{checked_model};
 ghost use Rattle.pz_rules.specs.Terms as terms;
 ghost use Rattle.pz_rules.specs.InternalActions as actions;
 ghost use Rattle.pz_rules.specs.Opening.{opened_all};
-ghost use Rattle.pz_eval.specs.Known.{AreKnown};
-ghost use Rattle.pz_part_opening.specs.Homes.{home_view};
+ghost use Rattle.pz_part_queries.specs.pz_eval.Known.{AreKnown};
+ghost use Rattle.pz_term_around.specs.pz_part_opening.Homes.{home_view};
 ghost use Rattle.pz_part_queries.specs.Standpoints.{Knows};
 ghost use Rattle.pz_part_actions.specs.Becoming.{process_left, HasPerformed, IsBuiltLow};
 ghost use Rattle.pz_part_actions.specs.devices.Standing.{seen_there};
@@ -18,14 +18,14 @@ ghost use Rattle.pz_part_actions.specs.devices.Openings.{OpensAs};
 
 use crate::evaluating::test;
 use crate::opening::{open_low, open_part};
+use pz_classes_code::pz_items::{Boxed, Items, Shared};
+use pz_classes_code::pz_syntax::Pos;
 use pz_classes_code::{Code, Step};
-use pz_items::{Boxed, Items, Shared};
-use pz_offer::Trouble;
-use pz_part_opening::Home;
 use pz_part_queries::Standpoint;
+use pz_rules::pz_offer::Trouble;
+use pz_rules::pz_state::{FrameId, State};
 use pz_rules::{Rest, Term};
-use pz_state::{FrameId, State};
-use pz_syntax::Pos;
+use pz_term_around::pz_part_opening::Home;
 use std::alloc::{AllocError, Global};
 
 /// The part of an `if` that is chosen.

@@ -7,9 +7,9 @@ use Rattle.std.specs.Option.{option_and_then, option_map_or}
 use Rattle.std.proofs.Math.Logic.{∥∥₁_elim}
 use Rattle.std.proofs.lemmas.List.{length-map}
 use Rattle.std.proofs.lemmas.Option.{slice_get_within}
-use Rattle.pz_syntax.specs.declared.names.Id.{Id}
-use Rattle.pz_syntax.specs.Classes.{DeclTree, ModelTree}
-use Rattle.pz_value.specs.declared.value.ClassId.{ClassId}
+use Rattle.pz_classes_code.specs.pz_syntax.declared.names.Id.{Id}
+use Rattle.pz_classes_code.specs.pz_syntax.Classes.{DeclTree, ModelTree}
+use Rattle.pz_classes_code.specs.pz_value.declared.value.ClassId.{ClassId}
 use Rattle.pz_classes_code.specs.declared.body.Body.{Body}
 use Rattle.pz_classes_code.specs.declared.body.Body.TheVariants as form
 use Rattle.pz_classes_code.specs.declared.code.Code.{Code}
@@ -17,13 +17,13 @@ use Rattle.pz_classes_code.specs.declared.step.Step.{Step}
 use Rattle.pz_classes_code.specs.CodeView.{list_view}
 use Rattle.pz_classes_code.specs.StepView.{sequence_view}
 use Rattle.pz_classes.specs.declared.classes.Classes.{Classes}
-use Rattle.pz_classes.specs.declared.method_id.MethodId.{MethodId}
-use Rattle.pz_classes.specs.contracts.method_id.MethodId as method_id
-use Rattle.pz_classes.specs.Bodies.{BodyTree, data_body, process_body, bodies}
-use Rattle.pz_classes.specs.BodyView.{body_view}
-use Rattle.pz_classes.specs.Kinds.{is_process}
-use Rattle.pz_classes.specs.MethodBodies.{process_method_body}
-use Rattle.pz_classes.specs.Methods.{process_method}
+use Rattle.pz_classes.specs.pz_classes_rules.declared.method_id.MethodId.{MethodId}
+use Rattle.pz_classes.specs.pz_classes_rules.contracts.method_id.MethodId as method_id
+use Rattle.pz_classes.specs.pz_classes_rules.Bodies.{BodyTree, data_body, process_body, bodies}
+use Rattle.pz_classes.specs.pz_classes_rules.BodyView.{body_view}
+use Rattle.pz_classes.specs.pz_classes_rules.Kinds.{is_process}
+use Rattle.pz_classes.specs.pz_classes_rules.MethodBodies.{process_method_body}
+use Rattle.pz_classes.specs.pz_classes_rules.Methods.{process_method}
 use Rattle.pz_classes.specs.declared.entry.Entry.{Entry}
 use Rattle.pz_classes.specs.devices.Rows.{AreClasses, Row, rows, rows_from, row_view}
 use Rattle.pz_rules.specs.declared.limits.Edition.{Edition}

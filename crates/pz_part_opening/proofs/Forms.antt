@@ -1,9 +1,9 @@
 -- Heights of what stands there.
 use Rattle.std.proofs.Common.{◌≡◌, ◌≤◌, ℕ, suc, min, List, [], ◌∷◌, length, get_or, refl, sym, ap, subst, ◌∙◌, arith}
 use Rattle.std.specs.Borrow.{Bor}
-use Rattle.pz_syntax.specs.declared.tokens.Pos.{Pos}
-use Rattle.pz_syntax.specs.Expressions.{none}
-use Rattle.pz_syntax.specs.Statements.{bracketed, guarded, parallel, select, abort, interrupt, call}
+use Rattle.pz_classes_code.specs.pz_syntax.declared.tokens.Pos.{Pos}
+use Rattle.pz_classes_code.specs.pz_syntax.Expressions.{none}
+use Rattle.pz_classes_code.specs.pz_syntax.Statements.{bracketed, guarded, parallel, select, abort, interrupt, call}
 use Rattle.pz_classes_code.specs.declared.code.Code.{Code}
 use Rattle.pz_classes_code.specs.declared.step.Step.{Step, fold-Step}
 use Rattle.pz_classes_code.specs.declared.step.StepForm.{StepForm, fold-StepForm, map-StepForm}

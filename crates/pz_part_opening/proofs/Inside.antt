@@ -1,11 +1,11 @@
 -- What opens where nothing further in does, what opens further in, and frames round it.
 use Rattle.std.proofs.Common.{◌≡◌, ℕ, false, [], ◌∷◌, Option, Some, None, refl, sym, subst, ap, ◌∙◌, inl, inr}
 use Rattle.std.proofs.lemmas.Option.{same_Some, none-some}
-use Rattle.pz_syntax.specs.Expressions.{none, more}
-use Rattle.pz_syntax.specs.Statements.{bracketed, guarded, parallel, select, abort, interrupt, call, no_statements, then}
-use Rattle.pz_state.specs.States.{StateView, IsLeastFree, opened as with_frame}
-use Rattle.pz_state.specs.Marks.{Seen, changed}
-use Rattle.pz_state.specs.declared.state.FrameId.{FrameId}
+use Rattle.pz_classes_code.specs.pz_syntax.Expressions.{none, more}
+use Rattle.pz_classes_code.specs.pz_syntax.Statements.{bracketed, guarded, parallel, select, abort, interrupt, call, no_statements, then}
+use Rattle.pz_rules.specs.pz_state.States.{StateView, IsLeastFree, opened as with_frame}
+use Rattle.pz_rules.specs.pz_state.Marks.{Seen, changed}
+use Rattle.pz_rules.specs.pz_state.declared.state.FrameId.{FrameId}
 use Rattle.pz_rules.specs.Terms.{Step, Steps, Term, leaf}
 use Rattle.pz_rules.specs.Settings.{Process, left_by, Home}
 use Rattle.pz_rules.specs.Framing.{framed}

@@ -1,4 +1,5 @@
 mod Called
+mod EachDone
 mod Forms
 mod Framings
 mod Inside

@@ -11,8 +11,8 @@ use Rattle.pz_classes_code.specs.StepView as step
 use Rattle.pz_rules.specs.declared.term.Term.{Term, fold-roll-Term}
 use Rattle.pz_rules.specs.declared.term.Term.TheOpen.{Term-F}
 use Rattle.pz_rules.specs.declared.term.Term.TheVariants.{Done, Leaf, Seq, rolls-Done, rolls-Leaf, rolls-Seq}
-use Rattle.pz_state.specs.States.{StateView}
-use Rattle.pz_state.specs.Marks.{Seen, changed, marked, kept}
+use Rattle.pz_rules.specs.pz_state.States.{StateView}
+use Rattle.pz_rules.specs.pz_state.Marks.{Seen, changed, marked, kept}
 use Rattle.pz_rules.specs.Terms as terms
 use Rattle.pz_rules.specs.Terms.{Terms, no_terms, and}
 use Rattle.pz_rules.specs.Settings.{Process, Home}

@@ -2,11 +2,11 @@
 use Rattle.std.proofs.Common.{◌≡◌, ◌<◌, ℕ, zero, suc, Bool, true, false, ◌||◌, IsTrue, List, [], ◌∷◌, Option, Some, None, inl, inr, refl, sym, ap, subst, ◌∙◌}
 use Rattle.std.specs.Borrow.{Bor}
 use Rattle.std.specs.Option.{is_some}
-use Rattle.pz_syntax.specs.declared.tokens.Pos.{Pos}
-use Rattle.pz_syntax.specs.declared.names.Id.{Id}
-use Rattle.pz_syntax.specs.Expressions as expressions
-use Rattle.pz_syntax.specs.Statements.{bracketed, call, no_statements, then}
-use Rattle.pz_classes.specs.Bodies.{BodyTree, data_body, process_body}
+use Rattle.pz_classes_code.specs.pz_syntax.declared.tokens.Pos.{Pos}
+use Rattle.pz_classes_code.specs.pz_syntax.declared.names.Id.{Id}
+use Rattle.pz_classes_code.specs.pz_syntax.Expressions as expressions
+use Rattle.pz_classes_code.specs.pz_syntax.Statements.{bracketed, call, no_statements, then}
+use Rattle.pz_classes.specs.pz_classes_rules.Bodies.{BodyTree, data_body, process_body}
 use Rattle.pz_classes_code.specs.declared.step.Step as code
 use Rattle.pz_classes_code.specs.StepView.{view, sequence_view}
 use Rattle.pz_rules.specs.declared.limits.Edition.{Edition}

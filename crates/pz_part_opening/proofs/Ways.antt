@@ -1,9 +1,9 @@
 -- The ways in, and what stands as it is.
 use Rattle.std.proofs.Common.{◌≡◌, ◌≤◌, Bool, true, false, IsTrue, List, [], ◌∷◌, length, refl, sym, ap, subst, ◌∙◌, arith, rules}
 use Rattle.std.specs.Borrow.{Bor}
-use Rattle.pz_syntax.specs.declared.tokens.Pos.{Pos}
-use Rattle.pz_syntax.specs.declared.names.Id.{Id}
-use Rattle.pz_syntax.specs.Statements.{call}
+use Rattle.pz_classes_code.specs.pz_syntax.declared.tokens.Pos.{Pos}
+use Rattle.pz_classes_code.specs.pz_syntax.declared.names.Id.{Id}
+use Rattle.pz_classes_code.specs.pz_syntax.Statements.{call}
 use Rattle.pz_classes_code.specs.declared.code.Code.{Code}
 use Rattle.pz_classes_code.specs.declared.slot.Slot.{Slot}
 use Rattle.pz_classes_code.specs.CodeView.{list_view}

@@ -2,7 +2,7 @@
 
 ghost use Rattle.std.specs.Prelude.{◌≡◌, ◌<◌, ◌≤◌, ◌-◌, ℕ, suc, max, min};
 ghost use Rattle.pz_classes_code.specs.StepView.{view, sequence_view};
-ghost use Rattle.pz_state.specs.States.{StateView};
+ghost use Rattle.pz_rules.specs.pz_state.States.{StateView};
 ghost use Rattle.pz_rules.specs.Terms.{height, greatest_height};
 ghost use Rattle.pz_rules.specs.Settings as rules;
 ghost use Rattle.pz_rules.specs.Leaving.{is_done};
@@ -17,8 +17,8 @@ ghost use Rattle.pz_part_opening.specs.devices.Rounds.{round_outline};
 
 use crate::home::Home;
 use crate::spot::{Spot, way_in};
+use pz_classes_code::pz_items::{Items, Shared};
 use pz_classes_code::{Step, StepForm};
-use pz_items::{Items, Shared};
 
 /// What stands inside in the end, and whether a frame stands round it.
 #[derive(Clone, Copy)]

@@ -6,10 +6,10 @@ ghost use Rattle.pz_rules.specs.CallLaws.{NoRounds};
 
 use pz_classes::{Body, Checked};
 use pz_classes_code::Step;
-use pz_items::{Items, Shared};
+use pz_classes_code::pz_items::{Items, Shared};
+use pz_classes_code::pz_syntax::Id;
+use pz_classes_code::pz_value::ClassId;
 use pz_rules::{Edition, Limits};
-use pz_syntax::Id;
-use pz_value::ClassId;
 
 /// Where statements open: a process class of a checked model, and the edition of the rules. In edition Two
 /// no method of the model begins with itself.

@@ -17,11 +17,11 @@ ghost use Rattle.pz_part_opening.specs.devices.Rounds.{frame_round, LeadsIn, Bec
 use crate::home::Home;
 use crate::spot::{Spot, way_in};
 use pz_classes::Checked;
+use pz_classes_code::pz_items::{Boxed, Items, Shared};
+use pz_classes_code::pz_value::ClassId;
 use pz_classes_code::{Step, StepForm};
-use pz_items::{Boxed, Items, Shared};
+use pz_rules::pz_state::{FrameId, State};
 use pz_rules::{Limits, Rest, Term};
-use pz_state::{FrameId, State};
-use pz_value::ClassId;
 use std::alloc::{AllocError, Global};
 
 /// What stands inside in the end, and the last of the frames that opened on the way.

@@ -7,8 +7,8 @@ ghost use Rattle.pz_classes_code.specs.StepView.{view};
 ghost use Rattle.pz_rules.specs.Openable.{alone};
 
 use crate::home::Home;
+use pz_classes_code::pz_items::{Items, Shared};
 use pz_classes_code::{Step, StepForm};
-use pz_items::{Items, Shared};
 
 /// One statement, or statements in a sequence.
 #[derive(Clone, Copy)]

@@ -1,14 +1,14 @@
 -- What a part is asked, from what an evaluation would find.
 use Rattle.std.proofs.Common.{◌≡◌, ℕ, Bool, List, [], Option, Some, None, Result, Ok, refl, sym, subst}
-use Rattle.pz_syntax.specs.declared.tokens.Pos.{Pos}
-use Rattle.pz_syntax.specs.Expressions.{left_out, written}
+use Rattle.pz_classes_code.specs.pz_syntax.declared.tokens.Pos.{Pos}
+use Rattle.pz_classes_code.specs.pz_syntax.Expressions.{left_out, written}
 use Rattle.pz_classes_code.specs.declared.code.Code as code
 use Rattle.pz_classes_code.specs.CodeView.{list_view, part_view}
-use Rattle.pz_copy.specs.Parcels.{ParcelView}
-use Rattle.pz_copy.specs.Packing.{IsParcelOf}
-use Rattle.pz_offer.specs.declared.trouble.Trouble.{Trouble}
-use Rattle.pz_eval_rules.specs.declared.allowance.Allowance.{Allowance}
-use Rattle.pz_eval_rules.specs.declared.outcome.Outcome.{Outcome}
+use Rattle.pz_rules.specs.pz_copy.Parcels.{ParcelView}
+use Rattle.pz_rules.specs.pz_copy.Packing.{IsParcelOf}
+use Rattle.pz_rules.specs.pz_offer.declared.trouble.Trouble.{Trouble}
+use Rattle.pz_rules.specs.pz_eval_rules.declared.allowance.Allowance.{Allowance}
+use Rattle.pz_rules.specs.pz_eval_rules.declared.outcome.Outcome.{Outcome}
 use Rattle.pz_eval.specs.declared.parcels.Parceled.{Parceled}
 use Rattle.pz_eval.specs.Tentative.{WouldFind}
 use Rattle.pz_eval.specs.Parcels as eval

@@ -1,7 +1,7 @@
 -- A law of receives.
 use Rattle.std.specs.Prelude.{◌≡◌, ℕ, Bool, Result}
-use Rattle.pz_copy.specs.Parcels.{ParcelView}
-use Rattle.pz_offer.specs.declared.trouble.Trouble.{Trouble}
+use Rattle.pz_rules.specs.pz_copy.Parcels.{ParcelView}
+use Rattle.pz_rules.specs.pz_offer.declared.trouble.Trouble.{Trouble}
 use Rattle.pz_rules.specs.Terms.{Term}
 use Rattle.pz_rules.specs.Settings.{Context}
 use Rattle.pz_rules.specs.Messages.{Judges}

@@ -1,6 +1,6 @@
 -- The parts of a term by their places.
 use Rattle.std.specs.Prelude.{◌≡◌, ℕ}
-use Rattle.pz_offer.specs.PlaceOrder.{Place}
+use Rattle.pz_rules.specs.pz_offer.PlaceOrder.{Place}
 use Rattle.pz_rules.specs.Terms.{Term}
 use Rattle.pz_rules.specs.Settings.{Context}
 use Rattle.pz_rules.specs.Active.{Active}

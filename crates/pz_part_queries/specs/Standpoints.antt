@@ -1,8 +1,8 @@
 -- A process as its statements see it, for the code's standpoint.
 use Rattle.std.specs.Prelude.{ℕ}
-use Rattle.pz_syntax.specs.Classes.{ModelTree}
-use Rattle.pz_classes.specs.devices.Rows.{AreClasses}
-use Rattle.pz_state.specs.States.{StateView}
+use Rattle.pz_classes_code.specs.pz_syntax.Classes.{ModelTree}
+use Rattle.pz_eval.specs.pz_classes.devices.Rows.{AreClasses}
+use Rattle.pz_rules.specs.pz_state.States.{StateView}
 use Rattle.pz_rules.specs.Settings.{Context}
 use Rattle.pz_part_queries.specs.declared.standpoint.Standpoint.{Standpoint}
 

@@ -1,7 +1,7 @@
 //! What parts are asked. The state stays as it is, always, and the only error is want of memory.
 
 ghost use Rattle.std.specs.Prelude.{◌≡◌, ◌<◌, ◌^◌, ℕ, [], All, IfOk};
-ghost use Rattle.pz_syntax.specs.Classes.{ModelTree};
+ghost use Rattle.pz_classes_code.specs.pz_syntax.Classes.{ModelTree};
 ghost use Rattle.pz_classes_code.specs.CodeView.{view, part_view};
 ghost use Rattle.pz_rules.specs.Evaluations as evaluations;
 ghost use Rattle.pz_rules.specs.Evaluations.{Tests, Lasts};
@@ -14,13 +14,13 @@ ghost use Rattle.pz_part_queries.specs.devices.Outcomes as outcomes;
 use crate::meanings::{duration, tested, value_or_trouble};
 use crate::standpoint::Standpoint;
 use pz_classes_code::Code;
-use pz_copy::{Parcel, pack};
+use pz_classes_code::pz_items::{Items, Shared};
+use pz_classes_code::pz_syntax::Pos;
 use pz_eval::{Allowance, Outcome, Parceled, try_eval, try_parcel};
-use pz_items::{Items, Shared};
-use pz_offer::Trouble;
 use pz_rules::Limits;
-use pz_state::{FrameId, State};
-use pz_syntax::Pos;
+use pz_rules::pz_copy::{Parcel, pack};
+use pz_rules::pz_offer::Trouble;
+use pz_rules::pz_state::{FrameId, State};
 use std::alloc::{AllocError, Global};
 
 /// What one evaluation may take.

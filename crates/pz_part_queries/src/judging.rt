@@ -2,11 +2,11 @@
 // memory.
 
 ghost use Rattle.std.specs.Prelude.{◌≡◌, ℕ, IfOk, option_map};
-ghost use Rattle.pz_syntax.specs.Classes.{ModelTree};
-ghost use Rattle.pz_syntax.specs.Expressions.{Part};
-ghost use Rattle.pz_syntax.specs.Statements.{receive};
-ghost use Rattle.pz_syntax.specs.declared.names.Id.{Id};
-ghost use Rattle.pz_value.specs.declared.value.ClassId.{ClassId};
+ghost use Rattle.pz_classes_code.specs.pz_syntax.Classes.{ModelTree};
+ghost use Rattle.pz_classes_code.specs.pz_syntax.Expressions.{Part};
+ghost use Rattle.pz_classes_code.specs.pz_syntax.Statements.{receive};
+ghost use Rattle.pz_classes_code.specs.pz_syntax.declared.names.Id.{Id};
+ghost use Rattle.pz_classes_code.specs.pz_value.declared.value.ClassId.{ClassId};
 ghost use Rattle.pz_classes_code.specs.declared.slot.Slot.{Slot as Variable};
 ghost use Rattle.pz_classes_code.specs.CodeView as code;
 ghost use Rattle.pz_rules.specs.Terms.{leaf};
@@ -19,14 +19,14 @@ ghost use Rattle.pz_rules.specs.Acting.{IsReceive};
 use crate::asking::allowance;
 use crate::meanings::tested;
 use crate::standpoint::Standpoint;
+use pz_classes_code::pz_items::{Items, Shared};
+use pz_classes_code::pz_syntax::Pos;
 use pz_classes_code::{Code, Slot, StepForm};
-use pz_copy::Parcel;
 use pz_eval::try_condition;
-use pz_items::{Items, Shared};
-use pz_offer::Trouble;
 use pz_rules::Term;
-use pz_state::{FrameId, State};
-use pz_syntax::Pos;
+use pz_rules::pz_copy::Parcel;
+use pz_rules::pz_offer::Trouble;
+use pz_rules::pz_state::{FrameId, State};
 use std::alloc::{AllocError, Global};
 
 fn slots_of(into: &Option<Shared<Items<Slot>>>) -> &[Slot]

@@ -15,4 +15,6 @@ pub use asking::{allowance, ask_parcel, ask_test, ask_time};
 pub use judging::judge;
 pub use meanings::{duration, truth, truth_of, value_or_trouble, values_or_trouble};
 pub use parts::part_at;
+pub use pz_eval;
+pub use pz_eval::pz_classes;
 pub use standpoint::Standpoint;

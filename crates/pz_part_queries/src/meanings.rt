@@ -4,12 +4,12 @@ ghost use Rattle.std.specs.Prelude.{◌≡◌, ◌<◌, ◌^◌, IfOk};
 ghost use Rattle.pz_rules.specs.Evaluations as evaluations;
 ghost use Rattle.pz_rules.specs.Meanings as meanings;
 
+use pz_classes_code::pz_items::Items;
+use pz_classes_code::pz_syntax::Pos;
+use pz_classes_code::pz_value::Value;
 use pz_eval::{Listed, Outcome};
-use pz_items::Items;
-use pz_offer::Trouble;
-use pz_state::FaultKind;
-use pz_syntax::Pos;
-use pz_value::Value;
+use pz_rules::pz_offer::Trouble;
+use pz_rules::pz_state::FaultKind;
 
 /// The value, or what is wrong at its place. A spent allowance has the place of the statement.
 pub fn value_or_trouble(process: u32, pos: Pos, outcome: Outcome) -> Result<Value, Trouble>

@@ -7,7 +7,7 @@ ghost use Rattle.pz_rules.specs.Places.{MayActIn, MayAct};
 ghost use Rattle.pz_part_queries.specs.Parts.{IsPartAt};
 
 use pz_rules::Term;
-use pz_state::FrameId;
+use pz_rules::pz_state::FrameId;
 
 /// The frame in which the children of a term stand that stands in this frame.
 fn inner_frame(term: &Term, frame: FrameId) -> FrameId

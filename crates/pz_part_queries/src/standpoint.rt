@@ -1,4 +1,4 @@
-use pz_classes::Classes;
+use pz_eval::pz_classes::Classes;
 use pz_rules::Limits;
 
 /// From where the statements of a process see the model.

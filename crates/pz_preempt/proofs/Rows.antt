@@ -1,15 +1,15 @@
 -- Rows of guards, aborts and interrupts, worked out.
 use Rattle.std.proofs.Common.{◌≡◌, true, false, Some, Err, refl}
-use Rattle.pz_syntax.specs.declared.tokens.Pos.{Pos}
-use Rattle.pz_syntax.specs.Statements.{skip}
-use Rattle.pz_state.specs.States.{StateView}
-use Rattle.pz_offer.specs.declared.trouble.Trouble.TheVariants.{High}
-use Rattle.pz_offer.specs.declared.summary.Summary.{Summary}
-use Rattle.pz_offer.specs.Summaries.{nothing}
+use Rattle.pz_tree_standing.specs.pz_syntax.declared.tokens.Pos.{Pos}
+use Rattle.pz_tree_standing.specs.pz_syntax.Statements.{skip}
+use Rattle.pz_tree_standing.specs.pz_state.States.{StateView}
+use Rattle.pz_tree_standing.specs.pz_offer.declared.trouble.Trouble.TheVariants.{High}
+use Rattle.pz_tree_standing.specs.pz_offer.declared.summary.Summary.{Summary}
+use Rattle.pz_tree_standing.specs.pz_offer.Summaries.{nothing}
 use Rattle.pz_clock.specs.Shifts.{ShiftView, new_shift, frozen, thawed}
-use Rattle.pz_rules.specs.Terms.{Step, Term, done, leaf, wait, abort, idle, handling}
-use Rattle.pz_rules.specs.Settings.{left_by, Home}
-use Rattle.pz_rules.specs.Leaving.{around}
+use Rattle.pz_tree_standing.specs.pz_rules.Terms.{Step, Term, done, leaf, wait, abort, idle, handling}
+use Rattle.pz_tree_standing.specs.pz_rules.Settings.{left_by, Home}
+use Rattle.pz_tree_standing.specs.pz_rules.Leaving.{around}
 use Rattle.pz_preempt.specs.declared.summaries.Gate.TheVariants.{Open, Shut}
 use Rattle.pz_preempt.specs.declared.summaries.Mode.TheVariants.{Idle, Handling}
 use Rattle.pz_preempt.specs.Tables.{gate_of, guarded_summary, interrupted_summary, abort_change, interrupt_change}

@@ -1,15 +1,15 @@
 -- What the tables say of terms: summaries are those of terms, and changes are what actions leave of them.
 use Rattle.std.specs.Prelude.{◌≡◌, ℕ, Bool, Some, Result, Ok, Err}
-use Rattle.pz_syntax.specs.declared.tokens.Pos.{Pos}
-use Rattle.pz_state.specs.States.{StateView}
-use Rattle.pz_offer.specs.declared.trouble.Trouble.{Trouble}
-use Rattle.pz_offer.specs.declared.summary.Summary.{Summary}
+use Rattle.pz_tree_standing.specs.pz_syntax.declared.tokens.Pos.{Pos}
+use Rattle.pz_tree_standing.specs.pz_state.States.{StateView}
+use Rattle.pz_tree_standing.specs.pz_offer.declared.trouble.Trouble.{Trouble}
+use Rattle.pz_tree_standing.specs.pz_offer.declared.summary.Summary.{Summary}
 use Rattle.pz_clock.specs.Shifts.{ShiftView, local, ShiftFits}
-use Rattle.pz_rules.specs.Terms.{Code, Step, Term, done, guarded, abort, idle, handling}
-use Rattle.pz_rules.specs.Settings.{Context, Process, left_by, Home}
-use Rattle.pz_rules.specs.Opening.{opened}
-use Rattle.pz_rules.specs.Leaving.{is_done, around}
-use Rattle.pz_rules.specs.devices.Found.{tested}
+use Rattle.pz_tree_standing.specs.pz_rules.Terms.{Code, Step, Term, done, guarded, abort, idle, handling}
+use Rattle.pz_tree_standing.specs.pz_rules.Settings.{Context, Process, left_by, Home}
+use Rattle.pz_tree_standing.specs.pz_rules.Opening.{opened}
+use Rattle.pz_tree_standing.specs.pz_rules.Leaving.{is_done, around}
+use Rattle.pz_tree_standing.specs.pz_rules.devices.Found.{tested}
 use Rattle.pz_tree_standing.specs.Summaries.{summary_of}
 use Rattle.pz_preempt.specs.declared.summaries.Gate.{Gate}
 use Rattle.pz_preempt.specs.declared.summaries.Mode.{Mode}

@@ -1,9 +1,9 @@
 -- Guards, aborts and interrupts: their summaries from those of their parts, and what becomes of them when a part
 -- has acted.
 use Rattle.std.specs.Prelude.{◌≡◌, ℕ, zero, suc, Bool, true, false, Result, Ok, Err}
-use Rattle.pz_offer.specs.declared.trouble.Trouble.{Trouble}
-use Rattle.pz_offer.specs.declared.summary.Summary.{Summary}
-use Rattle.pz_offer.specs.Summaries.{nothing, join, shifted, AreJoinable, MayShift}
+use Rattle.pz_tree_standing.specs.pz_offer.declared.trouble.Trouble.{Trouble}
+use Rattle.pz_tree_standing.specs.pz_offer.declared.summary.Summary.{Summary}
+use Rattle.pz_tree_standing.specs.pz_offer.Summaries.{nothing, join, shifted, AreJoinable, MayShift}
 use Rattle.pz_clock.specs.Shifts.{ShiftView, is_running}
 use Rattle.pz_preempt.specs.declared.summaries.Gate.{Gate}
 use Rattle.pz_preempt.specs.declared.summaries.Gate.TheVariants.{Open, Shut}

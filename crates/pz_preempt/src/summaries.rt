@@ -1,10 +1,10 @@
 ghost use Rattle.std.specs.Prelude.{◌≡◌};
-ghost use Rattle.pz_offer.specs.Summaries.{join, AreJoinable};
+ghost use Rattle.pz_tree_standing.specs.pz_offer.Summaries.{join, AreJoinable};
 ghost use Rattle.pz_preempt.specs.Tables.{guarded_summary, interrupted_summary, MayGuard, MayInterrupt};
 ghost use Rattle.pz_preempt.specs.Forms.{IsOfGuard, IsOfAbort, IsOfInterrupt};
 
 use pz_clock::Shift;
-use pz_offer::Summary;
+use pz_tree_standing::pz_rules::pz_offer::Summary;
 
 /// Whether the body of a guard is active.
 #[derive(Clone, Copy, Debug, PartialEq, Eq)]

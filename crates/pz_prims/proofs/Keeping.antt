@@ -1,8 +1,8 @@
 -- A state changes only where a value is answered, and when an answer is Other.
 use Rattle.std.proofs.Common.{◌≡◌, ℕ, List, Bool, true, false, Option, None, Some, Ok, Err, Result, refl, ap, ◌∙◌}
 use Rattle.std.specs.Prelude.{◌↔◌, if◌then◌else◌, IfOk, OnOk}
-use Rattle.pz_value.specs.declared.value.Value.{Value}
-use Rattle.pz_value.specs.declared.value.Value.TheVariants as value
+use Rattle.pz_state.specs.pz_value.declared.value.Value.{Value}
+use Rattle.pz_state.specs.pz_value.declared.value.Value.TheVariants as value
 use Rattle.pz_state.specs.States.{StateView, object}
 use Rattle.pz_state.specs.Marks.{Seen, changed}
 use Rattle.pz_prims.specs.declared.answer.Prim.{Prim}

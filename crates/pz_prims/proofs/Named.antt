@@ -1,7 +1,7 @@
 -- Rows whose answers go by a list of names.
 use Rattle.std.proofs.Common.{◌≡◌, ℕ, List, [], ◌∷◌, map, Bool, true, false, Option, Some, None, sym, ◌∙◌, ap, refl}
 use Rattle.std.specs.Prelude.{bytes_eq, if◌then◌else◌, option_map}
-use Rattle.pz_value.specs.declared.value.Value.{Value}
+use Rattle.pz_state.specs.pz_value.declared.value.Value.{Value}
 use Rattle.pz_prims.specs.Rows.{Rows, Answer, beside, answered}
 
 abbrev pub row_of : {A B : Type 0} → (A → B) → List ℕ × A → List ℕ × B

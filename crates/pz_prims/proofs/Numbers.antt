@@ -4,7 +4,7 @@ use Rattle.std.specs.Prelude.{int_rem, int_div}
 use Rattle.std.specs.Int.{cast_unsigned}
 use Rattle.std.proofs.lemmas.Int.{ints, quot-rem}
 use Rattle.std.proofs.lemmas.Bool.Decides.{nat_tests}
-use Rattle.pz_value.specs.declared.value.Value.{Value}
+use Rattle.pz_state.specs.pz_value.declared.value.Value.{Value}
 use Rattle.pz_prims.specs.Rows.{Answer}
 use Rattle.pz_prims.specs.Integers.{divided_by}
 

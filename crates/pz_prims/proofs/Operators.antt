@@ -1,7 +1,7 @@
 -- What values answer to selectors with one argument, by the names of these.
 use Rattle.std.proofs.Common.{◌≡◌, ℕ, ℤ, Bool, List, [], ◌∷◌, map, Option, refl}
 use Rattle.std.specs.Prelude.{option_map}
-use Rattle.pz_value.specs.declared.value.Value.{Value}
+use Rattle.pz_state.specs.pz_value.declared.value.Value.{Value}
 use Rattle.pz_state.specs.States.{StateView}
 use Rattle.pz_prims.specs.declared.every_value.Equality.{Equality}
 use Rattle.pz_prims.specs.declared.integers.Operator.{Operator}

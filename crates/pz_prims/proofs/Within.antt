@@ -2,8 +2,8 @@
 use Rattle.std.proofs.Common.{◌≡◌, ◌++◌, ℕ, zero, suc, ℤ, pos, negsuc, List, [], ◌∷◌, length, Bool, true, false, Option, None, Some, Ok, Err, Result, refl, ap, ◌∙◌, arith}
 use Rattle.std.specs.Prelude.{if◌then◌else◌, IfOk, IfSome, OnOk, OnErr, All, slice_get, bytes_eq, nat_le, option_map, neg_ℤ, ◌+ℤ◌, ◌-ℤ◌, ◌*ℤ◌, unsigned_abs, int_div}
 use Rattle.std.specs.Option.{option_map_or}
-use Rattle.pz_value.specs.declared.value.Value.{Value}
-use Rattle.pz_value.specs.declared.value.Value.TheVariants as value
+use Rattle.pz_state.specs.pz_value.declared.value.Value.{Value}
+use Rattle.pz_state.specs.pz_value.declared.value.Value.TheVariants as value
 use Rattle.pz_state.specs.declared.fault.FaultKind.TheVariants as fault
 use Rattle.pz_state.specs.Objects.{ObjectView}
 use Rattle.pz_state.specs.References.{RefersWithin}

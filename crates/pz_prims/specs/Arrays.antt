@@ -1,8 +1,8 @@
 -- What an Array answers, and the state that it leaves.
 use Rattle.std.specs.Prelude.{ℕ, zero, suc, nat_le, ℤ, pos, negsuc, [], ◌∷◌, length, Option, Some, None, Ok, Err, if◌then◌else◌, codes}
 use Rattle.std.specs.Option.{option_map_or}
-use Rattle.pz_value.specs.declared.value.Value.{Value}
-use Rattle.pz_value.specs.declared.value.Value.TheVariants.{Int, Ref}
+use Rattle.pz_state.specs.pz_value.declared.value.Value.{Value}
+use Rattle.pz_state.specs.pz_value.declared.value.Value.TheVariants.{Int, Ref}
 use Rattle.pz_state.specs.declared.fault.FaultKind.TheVariants.{Index}
 use Rattle.pz_state.specs.States.{StateView, object, set_item, resized}
 use Rattle.pz_prims.specs.Rows.{Rows, Answer}

@@ -1,8 +1,8 @@
 -- What a Boolean answers.
 use Rattle.std.specs.Prelude.{Bool, not, ◌&&◌, ◌||◌, if◌then◌else◌, [], ◌∷◌, Ok, Err, codes}
 use Rattle.std.specs.Bool.{beq}
-use Rattle.pz_value.specs.declared.value.Value.{Value}
-use Rattle.pz_value.specs.declared.value.Value.TheVariants.{Bool as Boolean, Str}
+use Rattle.pz_state.specs.pz_value.declared.value.Value.{Value}
+use Rattle.pz_state.specs.pz_value.declared.value.Value.TheVariants.{Bool as Boolean, Str}
 use Rattle.pz_state.specs.declared.fault.FaultKind.TheVariants.{NotBoolean}
 use Rattle.pz_prims.specs.Rows.{Rows, Answer}
 

@@ -1,7 +1,7 @@
 -- What a Char answers. A Char is a byte.
 use Rattle.std.specs.Prelude.{ℕ, nat_lt, nat_le, pos, [], ◌∷◌, Ok, Err, codes}
-use Rattle.pz_value.specs.declared.value.Value.{Value}
-use Rattle.pz_value.specs.declared.value.Value.TheVariants.{Bool as Boolean, Int, Char, Str}
+use Rattle.pz_state.specs.pz_value.declared.value.Value.{Value}
+use Rattle.pz_state.specs.pz_value.declared.value.Value.TheVariants.{Bool as Boolean, Int, Char, Str}
 use Rattle.pz_state.specs.declared.fault.FaultKind.TheVariants.{NotUnderstood}
 use Rattle.pz_prims.specs.Rows.{Rows, Answer}
 

@@ -2,8 +2,8 @@
 use Rattle.std.specs.Prelude.{◌==◌, ◌^◌, nat_lt, ℤ, pos, negsuc, neg_ℤ, ◌+ℤ◌, ◌-ℤ◌, ◌*ℤ◌, unsigned_abs, int_lt, int_le, int_div, Bool, false, if◌then◌else◌, [], ◌∷◌, Ok, Err, codes}
 use Rattle.std.specs.Int.{int_min, int_max}
 use Rattle.std.specs.Fmt.{signed_decimal}
-use Rattle.pz_value.specs.declared.value.Value.{Value}
-use Rattle.pz_value.specs.declared.value.Value.TheVariants.{Bool as Boolean, Int, Str}
+use Rattle.pz_state.specs.pz_value.declared.value.Value.{Value}
+use Rattle.pz_state.specs.pz_value.declared.value.Value.TheVariants.{Bool as Boolean, Int, Str}
 use Rattle.pz_state.specs.declared.fault.FaultKind.TheVariants.{Overflow, DivideByZero, NotInteger}
 use Rattle.pz_prims.specs.Rows.{Rows, Answer}
 

@@ -1,7 +1,7 @@
 -- What an answer promises of the state, and when it is Other.
 use Rattle.std.specs.Prelude.{◌≡◌, ℕ, false, List, None}
-use Rattle.pz_value.specs.declared.value.Value.{Value}
-use Rattle.pz_value.specs.declared.value.Value.TheVariants.{Ref}
+use Rattle.pz_state.specs.pz_value.declared.value.Value.{Value}
+use Rattle.pz_state.specs.pz_value.declared.value.Value.TheVariants.{Ref}
 use Rattle.pz_state.specs.References.{RefersWithin}
 use Rattle.pz_state.specs.States.{StateView, object}
 use Rattle.pz_prims.specs.declared.answer.Prim.{Prim}

@@ -1,6 +1,6 @@
 -- Rows of a table of selectors. A row is a selector and what a value answers to it.
 use Rattle.std.specs.Prelude.{ℕ, List, [], ◌∷◌, Option, None, Some, Result, if◌then◌else◌, bytes_eq, option_map}
-use Rattle.pz_value.specs.declared.value.Value.{Value}
+use Rattle.pz_state.specs.pz_value.declared.value.Value.{Value}
 use Rattle.pz_state.specs.declared.fault.FaultKind.{FaultKind}
 
 -- an X, or what is wrong

@@ -1,8 +1,8 @@
 -- What a String answers. A String is a list of bytes.
 use Rattle.std.specs.Prelude.{ℕ, zero, suc, nat_le, ℤ, pos, negsuc, List, [], ◌∷◌, ◌++◌, length, slice_get, Option, None, Ok, Err, if◌then◌else◌, codes}
 use Rattle.std.specs.Option.{option_map_or}
-use Rattle.pz_value.specs.declared.value.Value.{Value}
-use Rattle.pz_value.specs.declared.value.Value.TheVariants.{Int, Char, Str}
+use Rattle.pz_state.specs.pz_value.declared.value.Value.{Value}
+use Rattle.pz_state.specs.pz_value.declared.value.Value.TheVariants.{Int, Char, Str}
 use Rattle.pz_state.specs.declared.fault.FaultKind.TheVariants.{NotUnderstood, StoreFull, Index}
 use Rattle.pz_prims.specs.Rows.{Rows, Answer}
 use Rattle.pz_prims.specs.Integers.{of_integer}

@@ -1,9 +1,9 @@
 -- The table of what values answer to selectors.
 use Rattle.std.specs.Prelude.{ℕ, ◌==◌, List, Bool, Option, None, Some, Ok, Err, option_map, if◌then◌else◌}
 use Rattle.std.specs.Option.{option_map_or}
-use Rattle.pz_value.specs.declared.value.ClassId.{ClassId}
-use Rattle.pz_value.specs.declared.value.Value.{Value}
-use Rattle.pz_value.specs.declared.value.Value.TheVariants.{Nil, Bool as Boolean, Int, Char, Str, Ref}
+use Rattle.pz_state.specs.pz_value.declared.value.ClassId.{ClassId}
+use Rattle.pz_state.specs.pz_value.declared.value.Value.{Value}
+use Rattle.pz_state.specs.pz_value.declared.value.Value.TheVariants.{Nil, Bool as Boolean, Int, Char, Str, Ref}
 use Rattle.pz_state.specs.declared.fault.FaultKind.TheVariants.{NotUnderstood}
 use Rattle.pz_state.specs.States.{StateView, object}
 use Rattle.pz_prims.specs.declared.answer.Prim.{Prim}

@@ -1,5 +1,5 @@
 use pz_state::FaultKind;
-use pz_value::Value;
+use pz_state::pz_value::Value;
 
 /// What a value answers to a selector.
 #[derive(Drop)]

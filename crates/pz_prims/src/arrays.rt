@@ -10,8 +10,8 @@ ghost use Rattle.pz_prims.specs.devices.Operators.{requests, request_row};
 use crate::answer::Answer;
 use crate::places::at_place;
 use crate::spellings::find;
+use pz_state::pz_value::Value;
 use pz_state::{ARRAY_LIMIT, FaultKind, State};
-use pz_value::Value;
 use std::alloc::AllocError;
 
 #[derive(Clone, Copy)]

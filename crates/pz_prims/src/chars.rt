@@ -6,7 +6,7 @@ ghost use Rattle.pz_prims.specs.devices.Operators.{comparisons, comparison_row, 
 use crate::answer::Answer;
 use crate::spellings::find;
 use pz_state::FaultKind;
-use pz_value::{Text, Value};
+use pz_state::pz_value::{Text, Value};
 use std::alloc::{AllocError, Global};
 
 #[derive(Clone, Copy)]

@@ -5,7 +5,7 @@ ghost use Rattle.pz_prims.specs.devices.Operators.{equalities, equality_row};
 
 use crate::answer::Answer;
 use crate::spellings::find;
-use pz_value::Value;
+use pz_state::pz_value::Value;
 
 #[derive(Clone, Copy)]
 enum Equality {

@@ -8,7 +8,7 @@ ghost use Rattle.pz_prims.specs.devices.Operators.{operators, operator_row, comp
 use crate::answer::Answer;
 use crate::spellings::find;
 use pz_state::FaultKind;
-use pz_value::{Text, Value};
+use pz_state::pz_value::{Text, Value};
 use std::alloc::{AllocError, Global};
 
 /// What an Integer computes with another one.

@@ -8,7 +8,7 @@ use crate::answer::Answer;
 use crate::places::at_place;
 use crate::spellings::find;
 use pz_state::FaultKind;
-use pz_value::{Text, Value};
+use pz_state::pz_value::{Text, Value};
 use std::alloc::{AllocError, Global};
 
 /// The most bytes of a String.

@@ -8,8 +8,8 @@ ghost use Rattle.pz_prims.specs.devices.Staying.{StaysWithin};
 
 use crate::answer::{Answer, Prim};
 use crate::{arrays, booleans, chars, every_value, integers, strings};
+use pz_state::pz_value::Value;
 use pz_state::{FaultKind, State};
-use pz_value::Value;
 use std::alloc::{AllocError, Global};
 
 /// The class of Arrays.

@@ -1,16 +1,16 @@
 -- A process starts with a call without results.
 use Rattle.std.proofs.Common.{◌≡◌, ℕ, List, [], ◌∷◌, Option, Some, None, subst}
 use Rattle.std.specs.Option.{option_map, option_or, option_and_then}
-use Rattle.pz_syntax.specs.declared.tokens.Pos.{Pos}
-use Rattle.pz_syntax.specs.declared.names.Id.{Id}
-use Rattle.pz_syntax.specs.Statements.{call}
-use Rattle.pz_syntax.specs.Classes.{StartTree, ModelTree}
-use Rattle.pz_classes_code.specs.Resolution.{resolved_all}
-use Rattle.pz_classes.specs.Numbers.{declaration}
-use Rattle.pz_classes.specs.Ancestors.{ancestors}
-use Rattle.pz_classes.specs.Methods.{nearest}
-use Rattle.pz_classes.specs.Bodies.{process_scope}
-use Rattle.pz_classes.specs.Starts.{own_start, start_call, own_call, init}
+use Rattle.pz_bind_rules.specs.pz_syntax.declared.tokens.Pos.{Pos}
+use Rattle.pz_bind_rules.specs.pz_syntax.declared.names.Id.{Id}
+use Rattle.pz_bind_rules.specs.pz_syntax.Statements.{call}
+use Rattle.pz_bind_rules.specs.pz_syntax.Classes.{StartTree, ModelTree}
+use Rattle.pz_bind_rules.specs.pz_classes_code.Resolution.{resolved_all}
+use Rattle.pz_bind_rules.specs.pz_classes_rules.Numbers.{declaration}
+use Rattle.pz_bind_rules.specs.pz_classes_rules.Ancestors.{ancestors}
+use Rattle.pz_bind_rules.specs.pz_classes_rules.Methods.{nearest}
+use Rattle.pz_bind_rules.specs.pz_classes_rules.Bodies.{process_scope}
+use Rattle.pz_bind_rules.specs.pz_classes_rules.Starts.{own_start, start_call, own_call, init}
 use Rattle.pz_rules.specs.Terms.{Codes, Step}
 
 -- if there is one, it is so of it

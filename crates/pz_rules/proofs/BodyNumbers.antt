@@ -5,15 +5,15 @@ use Rattle.std.specs.List.{sum_by, flat_map}
 use Rattle.std.specs.Option.{unwrap_or, option_map, option_map_or, option_or}
 use Rattle.std.proofs.lemmas.List.Sums.{sum_by-cons}
 use Rattle.std.proofs.Math.Seq.{drop-append-add}
-use Rattle.pz_syntax.specs.declared.names.Id.{Id}
-use Rattle.pz_syntax.specs.Statements.{no_statements}
-use Rattle.pz_syntax.specs.Classes.{DeclTree, data_class, process_class, cluster_class, system, DataMethodTree, ProcessMethodTree, ModelTree}
-use Rattle.pz_classes_code.specs.Resolution.{Scope, resolved_statements}
-use Rattle.pz_classes.specs.declared.method_id.MethodId.{MethodId}
-use Rattle.pz_classes.specs.Ancestors.{ancestors}
-use Rattle.pz_classes.specs.Methods.{Signature, same_signature, data_signature, process_signature, signatures, methods_before, first_with, method_id, own_method, nearest, method_with}
-use Rattle.pz_classes.specs.Bodies.{BodyTree, process_body, data_scope, process_scope, data_body_in, process_body_in, process_locals}
-use Rattle.pz_classes.specs.MethodBodies.{Method, data_method_in, process_method_in, own_methods, first_body, own_body, body_with}
+use Rattle.pz_bind_rules.specs.pz_syntax.declared.names.Id.{Id}
+use Rattle.pz_bind_rules.specs.pz_syntax.Statements.{no_statements}
+use Rattle.pz_bind_rules.specs.pz_syntax.Classes.{DeclTree, data_class, process_class, cluster_class, system, DataMethodTree, ProcessMethodTree, ModelTree}
+use Rattle.pz_bind_rules.specs.pz_classes_code.Resolution.{Scope, resolved_statements}
+use Rattle.pz_bind_rules.specs.pz_classes_rules.declared.method_id.MethodId.{MethodId}
+use Rattle.pz_bind_rules.specs.pz_classes_rules.Ancestors.{ancestors}
+use Rattle.pz_bind_rules.specs.pz_classes_rules.Methods.{Signature, same_signature, data_signature, process_signature, signatures, methods_before, first_with, method_id, own_method, nearest, method_with}
+use Rattle.pz_bind_rules.specs.pz_classes_rules.Bodies.{BodyTree, process_body, data_scope, process_scope, data_body_in, process_body_in, process_locals}
+use Rattle.pz_bind_rules.specs.pz_classes_rules.MethodBodies.{Method, data_method_in, process_method_in, own_methods, first_body, own_body, body_with}
 use Rattle.pz_classes_openings.specs.Methods.{declared_methods, methods, method_at, body_at}
 use Rattle.pz_rules.specs.Terms.{Steps}
 

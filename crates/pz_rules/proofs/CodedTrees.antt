@@ -2,21 +2,21 @@
 use Rattle.std.proofs.Common.{◌≡◌, ℕ, zero, suc, List, [], ◌∷◌, Option, refl, sym, subst, ap}
 use Rattle.std.specs.Coded.{Coded, Coded-set, coded_ℕ, coded_list, coded_option}
 use base.Stored.{Gv, gnil, gnum, gcons, num}
-use Rattle.pz_syntax.specs.declared.tokens.Pos.{Pos}
-use Rattle.pz_syntax.specs.declared.tokens.Symbol.{Symbol}
-use Rattle.pz_syntax.specs.declared.names.Id.{Id}
-use Rattle.pz_syntax.specs.declared.exprs.Literal.{Literal}
-use Rattle.pz_syntax.specs.contracts.tokens.Pos as pos
-use Rattle.pz_syntax.specs.contracts.tokens.Symbol as symbol
-use Rattle.pz_syntax.specs.contracts.names.Id as id
-use Rattle.pz_syntax.specs.contracts.exprs.Literal as constant
-use Rattle.pz_syntax.specs.Expressions.{Expression, literal, variable, me, clock, creation, group, chain, sends, unary, assign, returned, choice, loop, Expressions, none, more, Part, left_out, written, Links, no_links, link, Sendings, no_sendings, sending}
-use Rattle.pz_syntax.specs.Statements.{Statement, skip, delay, bracketed, block, guarded, parallel, select, conditional, repeated, abort, interrupt, send, receive, call, assignment, value, Statements, no_statements, then, StatementPart, not_written, otherwise, Branches, no_branches, branch}
-use Rattle.pz_value.specs.declared.value.ClassId.{ClassId}
-use Rattle.pz_value.specs.contracts.value.ClassId as class
-use Rattle.pz_classes_code.specs.declared.slot.Slot.{Slot}
-use Rattle.pz_classes_code.specs.contracts.slot.Slot as slot
-use Rattle.pz_classes.specs.Bodies.{BodyTree, data_body, process_body}
+use Rattle.pz_bind_rules.specs.pz_syntax.declared.tokens.Pos.{Pos}
+use Rattle.pz_bind_rules.specs.pz_syntax.declared.tokens.Symbol.{Symbol}
+use Rattle.pz_bind_rules.specs.pz_syntax.declared.names.Id.{Id}
+use Rattle.pz_bind_rules.specs.pz_syntax.declared.exprs.Literal.{Literal}
+use Rattle.pz_bind_rules.specs.pz_syntax.contracts.tokens.Pos as pos
+use Rattle.pz_bind_rules.specs.pz_syntax.contracts.tokens.Symbol as symbol
+use Rattle.pz_bind_rules.specs.pz_syntax.contracts.names.Id as id
+use Rattle.pz_bind_rules.specs.pz_syntax.contracts.exprs.Literal as constant
+use Rattle.pz_bind_rules.specs.pz_syntax.Expressions.{Expression, literal, variable, me, clock, creation, group, chain, sends, unary, assign, returned, choice, loop, Expressions, none, more, Part, left_out, written, Links, no_links, link, Sendings, no_sendings, sending}
+use Rattle.pz_bind_rules.specs.pz_syntax.Statements.{Statement, skip, delay, bracketed, block, guarded, parallel, select, conditional, repeated, abort, interrupt, send, receive, call, assignment, value, Statements, no_statements, then, StatementPart, not_written, otherwise, Branches, no_branches, branch}
+use Rattle.pz_bind_rules.specs.pz_value.declared.value.ClassId.{ClassId}
+use Rattle.pz_bind_rules.specs.pz_value.contracts.value.ClassId as class
+use Rattle.pz_bind_rules.specs.pz_classes_code.declared.slot.Slot.{Slot}
+use Rattle.pz_bind_rules.specs.pz_classes_code.contracts.slot.Slot as slot
+use Rattle.pz_bind_rules.specs.pz_classes_rules.Bodies.{BodyTree, data_body, process_body}
 
 -- a form of a tree: its number, and its parts
 abbrev row : List Gv → Gv

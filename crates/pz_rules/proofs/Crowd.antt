@@ -5,17 +5,17 @@ use Rattle.std.specs.List.{filter, flat_map}
 use Rattle.std.proofs.lemmas.Bool.Decides.{nat_tests}
 use Rattle.std.proofs.lemmas.List.{length_push}
 use Rattle.std.proofs.lemmas.List.Elements.{filter-append}
-use Rattle.pz_syntax.specs.declared.clusters.Instance.{Instance}
-use Rattle.pz_syntax.specs.declared.clusters.SystemDecl.{SystemDecl}
-use Rattle.pz_syntax.specs.Classes.{DeclTree, data_class, process_class, cluster_class, system, ModelTree}
-use Rattle.pz_check_violations.specs.Order.{violation}
-use Rattle.pz_classes.specs.Numbers.{declaration}
-use Rattle.pz_classes.specs.Kinds.{is_process}
-use Rattle.pz_classes.specs.Instances.{instances, instance_class}
-use Rattle.pz_classes.specs.SizeRules.{system_of, systems, text_start, Totals, nothing, all_of, one_of, expanded, system_size, HasNoSize, by_class, by_name, by_holding, by_system, no_system, too_large}
-use Rattle.pz_classes.specs.Soundness.{IsSound, a_word, holding, size, the_system}
+use Rattle.pz_bind_rules.specs.pz_syntax.declared.clusters.Instance.{Instance}
+use Rattle.pz_bind_rules.specs.pz_syntax.declared.clusters.SystemDecl.{SystemDecl}
+use Rattle.pz_bind_rules.specs.pz_syntax.Classes.{DeclTree, data_class, process_class, cluster_class, system, ModelTree}
+use Rattle.pz_bind_rules.specs.pz_check_violations.Order.{violation}
+use Rattle.pz_bind_rules.specs.pz_classes_rules.Numbers.{declaration}
+use Rattle.pz_bind_rules.specs.pz_classes_rules.Kinds.{is_process}
+use Rattle.pz_bind_rules.specs.pz_classes_rules.Instances.{instances, instance_class}
+use Rattle.pz_bind_rules.specs.pz_classes_rules.SizeRules.{system_of, systems, text_start, Totals, nothing, all_of, one_of, expanded, system_size, HasNoSize, by_class, by_name, by_holding, by_system, no_system, too_large}
+use Rattle.pz_bind_rules.specs.pz_classes_rules.Soundness.{IsSound, a_word, holding, size, the_system}
 use Rattle.pz_bind_levels.specs.Places.{Address}
-use Rattle.pz_bind.specs.Nest.{first_system, each_instance, system_class, instances_in, class_of, class_at, instances_at, with_inside, inside, is_process_at, processes}
+use Rattle.pz_bind_rules.specs.Nest.{first_system, each_instance, system_class, instances_in, class_of, class_at, instances_at, with_inside, inside, is_process_at, processes}
 
 module _ (m : ModelTree) where
   -- Processes among these places

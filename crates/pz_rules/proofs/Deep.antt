@@ -5,13 +5,13 @@ use Rattle.std.specs.List.{IsDistinct, AllByRecursion, list_any}
 use Rattle.std.proofs.lemmas.Bool.{eqb-true}
 use Rattle.std.proofs.lemmas.Map.Keys.{IsDistinct-cons}
 use Rattle.std.proofs.lemmas.Map.Steps.{length-le_from_distinct_below}
-use Rattle.pz_syntax.specs.declared.names.Id.{Id}
-use Rattle.pz_syntax.specs.Classes.{DeclTree, ModelTree}
-use Rattle.pz_check_violations.specs.Order.{violation}
-use Rattle.pz_classes.specs.declared.method_id.Counts.TheVariants.{Process}
-use Rattle.pz_classes.specs.Numbers.{declaration}
-use Rattle.pz_classes.specs.Kinds.{is_process}
-use Rattle.pz_classes.specs.Methods.{method_id}
+use Rattle.pz_bind_rules.specs.pz_syntax.declared.names.Id.{Id}
+use Rattle.pz_bind_rules.specs.pz_syntax.Classes.{DeclTree, ModelTree}
+use Rattle.pz_bind_rules.specs.pz_check_violations.Order.{violation}
+use Rattle.pz_bind_rules.specs.pz_classes_rules.declared.method_id.Counts.TheVariants.{Process}
+use Rattle.pz_bind_rules.specs.pz_classes_rules.Numbers.{declaration}
+use Rattle.pz_bind_rules.specs.pz_classes_rules.Kinds.{is_process}
+use Rattle.pz_bind_rules.specs.pz_classes_rules.Methods.{method_id}
 use Rattle.pz_classes_openings.specs.Methods.{methods}
 use Rattle.pz_classes_openings.specs.Openings.{begun_at, HasMethod, called, Leads, itself, further}
 use Rattle.pz_classes_openings.specs.OpeningRules.{round}

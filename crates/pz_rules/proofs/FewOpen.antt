@@ -2,22 +2,22 @@
 use Rattle.std.proofs.Common.{◌≡◌, ◌≤◌, ◌+◌, ℕ, suc, List, [], ◌++◌, Some, refl, ap, arith}
 use Rattle.std.specs.List.{sum_by}
 use Rattle.std.proofs.lemmas.List.Sums.{sum_by-cons, sum_by-append}
-use Rattle.pz_syntax.specs.declared.tokens.Pos.{Pos}
-use Rattle.pz_syntax.specs.declared.names.Id.{Id}
-use Rattle.pz_syntax.specs.ModelForm.{Each}
-use Rattle.pz_syntax.specs.ModelText.{HasFewMarks}
-use Rattle.pz_syntax.specs.Expressions.{none, more}
-use Rattle.pz_syntax.specs.Statements.{bracketed, guarded, parallel, select, conditional, repeated, abort, interrupt, call, StatementPart, not_written, otherwise, Branches, no_branches, branch}
-use Rattle.pz_syntax.specs.Classes.{ModelTree}
-use Rattle.pz_value.specs.declared.value.ClassId.{ClassId}
-use Rattle.pz_classes_code.specs.declared.slot.Slot.{Slot}
-use Rattle.pz_classes.specs.declared.method_id.Counts.TheVariants.{Process as process_counts}
-use Rattle.pz_classes.specs.Bodies.{process_body}
-use Rattle.pz_classes.specs.Methods.{Signature}
+use Rattle.pz_bind_rules.specs.pz_syntax.declared.tokens.Pos.{Pos}
+use Rattle.pz_bind_rules.specs.pz_syntax.declared.names.Id.{Id}
+use Rattle.pz_bind_rules.specs.pz_syntax.ModelForm.{Each}
+use Rattle.pz_bind_rules.specs.pz_syntax.ModelText.{HasFewMarks}
+use Rattle.pz_bind_rules.specs.pz_syntax.Expressions.{none, more}
+use Rattle.pz_bind_rules.specs.pz_syntax.Statements.{bracketed, guarded, parallel, select, conditional, repeated, abort, interrupt, call, StatementPart, not_written, otherwise, Branches, no_branches, branch}
+use Rattle.pz_bind_rules.specs.pz_syntax.Classes.{ModelTree}
+use Rattle.pz_bind_rules.specs.pz_value.declared.value.ClassId.{ClassId}
+use Rattle.pz_bind_rules.specs.pz_classes_code.declared.slot.Slot.{Slot}
+use Rattle.pz_bind_rules.specs.pz_classes_rules.declared.method_id.Counts.TheVariants.{Process as process_counts}
+use Rattle.pz_bind_rules.specs.pz_classes_rules.Bodies.{process_body}
+use Rattle.pz_bind_rules.specs.pz_classes_rules.Methods.{Signature}
 use Rattle.pz_classes_beginnings.specs.Beginning.{begun_all, plain_calls, all_plain_calls, plain_calls_of_part, plain_calls_of_each, statements_in_all, statements_in_part, statements_in_each}
 use Rattle.pz_classes_openings.specs.Openings.{of_called, opened_to}
 use Rattle.pz_classes_openings.specs.OpeningRules.{Opens}
-use Rattle.pz_state.specs.States.{StateView}
+use Rattle.pz_offer.specs.pz_state.States.{StateView}
 use Rattle.pz_rules.specs.declared.limits.Edition.{Edition}
 use Rattle.pz_rules.specs.declared.limits.Edition.TheVariants.{One, Two}
 use Rattle.pz_rules.specs.Terms.{Codes, Step, Steps}

@@ -3,13 +3,13 @@
 use Rattle.std.proofs.Common.{◌≡◌, ◌⊎◌, ◌<◌, inl, inr, ℕ, zero, suc, Bool, true, false, List, [], ◌∷◌, Some, Result, Ok, Err, refl, sym, subst, ap, ◌∙◌}
 use Rattle.std.proofs.lemmas.Option.{slice_get_within}
 use Rattle.std.specs.Prelude.{slice_get, slice_set, if◌then◌else◌, nat_le}
-use Rattle.pz_syntax.specs.declared.tokens.Pos.{Pos}
-use Rattle.pz_syntax.specs.Classes.{ModelTree}
-use Rattle.pz_classes.specs.SoundBodies.{BodiesFit}
+use Rattle.pz_bind_rules.specs.pz_syntax.declared.tokens.Pos.{Pos}
+use Rattle.pz_bind_rules.specs.pz_syntax.Classes.{ModelTree}
+use Rattle.pz_bind_rules.specs.pz_classes_rules.SoundBodies.{BodiesFit}
 use Rattle.pz_bind_levels.specs.Places.{Address as Standing}
-use Rattle.pz_bind.specs.Nest.{processes, class_at}
-use Rattle.pz_bind.specs.Values.{values_at}
-use Rattle.pz_state.specs.States.{initial}
+use Rattle.pz_bind_rules.specs.Nest.{processes, class_at}
+use Rattle.pz_bind_rules.specs.Values.{values_at}
+use Rattle.pz_offer.specs.pz_state.States.{initial}
 use Rattle.pz_offer.specs.declared.end.End.{End}
 use Rattle.pz_offer.specs.PlaceOrder.{Place}
 use Rattle.pz_offer.specs.declared.trouble.Trouble.{Trouble}

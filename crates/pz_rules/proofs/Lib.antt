@@ -51,3 +51,4 @@ pub mod Opened
 pub mod Left
 mod Stepped
 mod Passed
+pub use Rattle.pz_offer.proofs as pz_offer_proofs

@@ -2,24 +2,24 @@
 use Rattle.std.proofs.Common.{◌≡◌, ◌≤◌, ℕ, Bool, true, false, List, [], ◌∷◌, map, length, length-append, Option, Some, None, refl, subst, arith}
 use Rattle.std.specs.Prelude.{if◌then◌else◌}
 use Rattle.std.specs.Option.{option_map_or, option_or, unwrap_or}
-use Rattle.pz_syntax.specs.declared.tokens.Keyword.{Keyword}
-use Rattle.pz_syntax.specs.declared.tokens.Keyword.TheVariants as k
-use Rattle.pz_syntax.specs.declared.names.Id.{Id}
-use Rattle.pz_syntax.specs.Marks.{each_text, section}
-use Rattle.pz_syntax.specs.Statements.{Statement, delay, bracketed, guarded, parallel, select, conditional, repeated, abort, interrupt, Statements, no_statements, then, StatementPart, not_written, otherwise, Branches, no_branches, branch}
-use Rattle.pz_syntax.specs.StatementText.{text, texts, tail_texts, otherwise_text, branches_text, tail_branches}
-use Rattle.pz_syntax.specs.ClassText.{process_method_text}
-use Rattle.pz_syntax.specs.ModelText as model
-use Rattle.pz_syntax.specs.ModelText.{decl_text, HasFewMarks}
-use Rattle.pz_syntax.specs.Classes.{DataMethodTree, ProcessMethodTree, DeclTree, data_class, process_class, cluster_class, system, ModelTree}
-use Rattle.pz_classes_code.specs.Resolution.{Scope, resolved_statement, resolved_statements, resolved_otherwise, resolved_branches}
-use Rattle.pz_classes.specs.declared.method_id.Counts.TheVariants.{Process}
-use Rattle.pz_classes.specs.Numbers.{declaration}
-use Rattle.pz_classes.specs.Ancestors.{ancestors}
-use Rattle.pz_classes.specs.Methods.{Signature, same_signature, data_signature, process_signature, nearest}
-use Rattle.pz_classes.specs.Bodies.{BodyTree, data_body, process_body, data_scope, process_scope, process_locals}
-use Rattle.pz_classes.specs.MethodBodies.{data_method_in, process_method_in, own_methods, first_body, own_body}
-use Rattle.pz_classes.proofs.FewMarks.{decl_few}
+use Rattle.pz_bind_rules.specs.pz_syntax.declared.tokens.Keyword.{Keyword}
+use Rattle.pz_bind_rules.specs.pz_syntax.declared.tokens.Keyword.TheVariants as k
+use Rattle.pz_bind_rules.specs.pz_syntax.declared.names.Id.{Id}
+use Rattle.pz_bind_rules.specs.pz_syntax.Marks.{each_text, section}
+use Rattle.pz_bind_rules.specs.pz_syntax.Statements.{Statement, delay, bracketed, guarded, parallel, select, conditional, repeated, abort, interrupt, Statements, no_statements, then, StatementPart, not_written, otherwise, Branches, no_branches, branch}
+use Rattle.pz_bind_rules.specs.pz_syntax.StatementText.{text, texts, tail_texts, otherwise_text, branches_text, tail_branches}
+use Rattle.pz_bind_rules.specs.pz_syntax.ClassText.{process_method_text}
+use Rattle.pz_bind_rules.specs.pz_syntax.ModelText as model
+use Rattle.pz_bind_rules.specs.pz_syntax.ModelText.{decl_text, HasFewMarks}
+use Rattle.pz_bind_rules.specs.pz_syntax.Classes.{DataMethodTree, ProcessMethodTree, DeclTree, data_class, process_class, cluster_class, system, ModelTree}
+use Rattle.pz_bind_rules.specs.pz_classes_code.Resolution.{Scope, resolved_statement, resolved_statements, resolved_otherwise, resolved_branches}
+use Rattle.pz_bind_rules.specs.pz_classes_rules.declared.method_id.Counts.TheVariants.{Process}
+use Rattle.pz_bind_rules.specs.pz_classes_rules.Numbers.{declaration}
+use Rattle.pz_bind_rules.specs.pz_classes_rules.Ancestors.{ancestors}
+use Rattle.pz_bind_rules.specs.pz_classes_rules.Methods.{Signature, same_signature, data_signature, process_signature, nearest}
+use Rattle.pz_bind_rules.specs.pz_classes_rules.Bodies.{BodyTree, data_body, process_body, data_scope, process_scope, process_locals}
+use Rattle.pz_bind_rules.specs.pz_classes_rules.MethodBodies.{data_method_in, process_method_in, own_methods, first_body, own_body}
+use Rattle.pz_bind_rules.proofs.pz_classes_rules_proofs.FewMarks.{decl_few}
 use Rattle.pz_rules.specs.Methods.{IsMethod}
 use Rattle.pz_rules.specs.Terms.{Steps}
 use Rattle.pz_rules.specs.devices.Opened.{delays_in, delays_in_all, delays_in_part, delays_in_each}

@@ -2,14 +2,14 @@
 use Rattle.std.proofs.Common.{◌≡◌, refl, sym, ap, ◌∙◌, ℕ, zero, suc, List, [], ◌∷◌, ◌++◌, map, Option, Some, None, slice_get}
 use Rattle.std.specs.Option.{unwrap_or, option_map_or}
 use Rattle.std.specs.List.{flat_map}
-use Rattle.pz_syntax.specs.declared.names.Id.{Id}
-use Rattle.pz_syntax.specs.Statements.{no_statements}
-use Rattle.pz_syntax.specs.Classes.{DeclTree, data_class, process_class, cluster_class, system, DataMethodTree, ProcessMethodTree, ModelTree}
-use Rattle.pz_classes_code.specs.Resolution.{Scope, resolved_statements}
-use Rattle.pz_classes.specs.declared.method_id.Counts.TheVariants.{Process}
-use Rattle.pz_classes.specs.Methods.{Signature, method_id}
-use Rattle.pz_classes.specs.Bodies.{BodyTree, process_body, data_scope, process_scope, data_body_in, process_body_in, process_locals, own_bodies, bodies_from, bodies}
-use Rattle.pz_classes.specs.MethodBodies.{HasBody, process_method_body}
+use Rattle.pz_bind_rules.specs.pz_syntax.declared.names.Id.{Id}
+use Rattle.pz_bind_rules.specs.pz_syntax.Statements.{no_statements}
+use Rattle.pz_bind_rules.specs.pz_syntax.Classes.{DeclTree, data_class, process_class, cluster_class, system, DataMethodTree, ProcessMethodTree, ModelTree}
+use Rattle.pz_bind_rules.specs.pz_classes_code.Resolution.{Scope, resolved_statements}
+use Rattle.pz_bind_rules.specs.pz_classes_rules.declared.method_id.Counts.TheVariants.{Process}
+use Rattle.pz_bind_rules.specs.pz_classes_rules.Methods.{Signature, method_id}
+use Rattle.pz_bind_rules.specs.pz_classes_rules.Bodies.{BodyTree, process_body, data_scope, process_scope, data_body_in, process_body_in, process_locals, own_bodies, bodies_from, bodies}
+use Rattle.pz_bind_rules.specs.pz_classes_rules.MethodBodies.{HasBody, process_method_body}
 use Rattle.pz_classes_beginnings.specs.Beginning.{begun_all}
 use Rattle.pz_classes_openings.specs.Methods.{declared_methods, methods}
 use Rattle.pz_classes_openings.specs.Openings.{begun_at, called}

@@ -1,8 +1,8 @@
 -- An action leaves one configuration or one trouble.
 use Rattle.std.proofs.Common.{◌≡◌, ℕ, Result, Ok, sym, subst, ap, ◌∙◌}
-use Rattle.pz_syntax.specs.declared.tokens.Pos.{Pos}
+use Rattle.pz_bind_rules.specs.pz_syntax.declared.tokens.Pos.{Pos}
 use Rattle.pz_bind_levels.specs.Places.{Address}
-use Rattle.pz_bind.specs.Nest.{class_at}
+use Rattle.pz_bind_rules.specs.Nest.{class_at}
 use Rattle.pz_offer.specs.declared.end.End.{End}
 use Rattle.pz_offer.specs.declared.trouble.Trouble.{Trouble}
 use Rattle.pz_rules.specs.declared.action.Action.{Action}

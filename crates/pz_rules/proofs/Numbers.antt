@@ -3,8 +3,8 @@ use Rattle.std.proofs.Common.{◌≡◌, ◌≤◌, ◌<◌, ◌+◌, ◌⊎◌,
 use Rattle.std.specs.Prelude.{if◌then◌else◌, nat_eq}
 use Rattle.std.specs.Option.{IsSome}
 use Rattle.std.proofs.lemmas.Bool.{cases_lt, eqb-true}
-use Rattle.pz_value.specs.declared.value.Value.{Value}
-use Rattle.pz_state.specs.States.{Frames, locals_in, IsLeastFree}
+use Rattle.pz_bind_rules.specs.pz_value.declared.value.Value.{Value}
+use Rattle.pz_offer.specs.pz_state.States.{Frames, locals_in, IsLeastFree}
 use Rattle.pz_rules.specs.FrameNumbers.{above, unless_taken, first_free, least_free}
 
 none_above : (fs : Frames) (n : ℕ) → above fs ≤ n → locals_in fs n ≡ None

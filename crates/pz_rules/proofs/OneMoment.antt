@@ -1,7 +1,7 @@
 -- A configuration has no more than one moment.
 use Rattle.std.proofs.Common.{◌≡◌, inl, inr, ℕ, List, length, Result, Err, refl, sym, subst, ap, ◌∙◌, arith}
 use Rattle.std.specs.Prelude.{Bool}
-use Rattle.pz_copy.specs.Parcels.{ParcelView}
+use Rattle.pz_offer.specs.pz_copy.Parcels.{ParcelView}
 use Rattle.pz_offer.specs.declared.end.End.{End}
 use Rattle.pz_offer.specs.declared.trouble.Trouble.{Trouble}
 use Rattle.pz_rules.specs.declared.action.Action.{Action}

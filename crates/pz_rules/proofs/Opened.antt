@@ -1,16 +1,16 @@
 -- What opens has no delay that has begun, so neither has a process that has just begun, and what is around an action
 -- leaves those that there were.
 use Rattle.std.proofs.Common.{if◌then◌else◌, ℕ, zero, suc, Bool, true, false, List, [], ◌∷◌, Option, Some, None, sym, subst}
-use Rattle.pz_syntax.specs.Expressions as expression
-use Rattle.pz_syntax.specs.Statements as statement
-use Rattle.pz_syntax.specs.Statements.{Branches, no_branches, branch, no_statements, then, StatementPart, not_written, otherwise}
-use Rattle.pz_value.specs.declared.value.ClassId.{ClassId}
-use Rattle.pz_classes_code.specs.declared.slot.Slot.{Slot}
-use Rattle.pz_classes.specs.Bodies.{BodyTree, data_body, process_body}
+use Rattle.pz_bind_rules.specs.pz_syntax.Expressions as expression
+use Rattle.pz_bind_rules.specs.pz_syntax.Statements as statement
+use Rattle.pz_bind_rules.specs.pz_syntax.Statements.{Branches, no_branches, branch, no_statements, then, StatementPart, not_written, otherwise}
+use Rattle.pz_bind_rules.specs.pz_value.declared.value.ClassId.{ClassId}
+use Rattle.pz_bind_rules.specs.pz_classes_code.declared.slot.Slot.{Slot}
+use Rattle.pz_bind_rules.specs.pz_classes_rules.Bodies.{BodyTree, data_body, process_body}
 use Rattle.pz_bind_levels.specs.Places.{Address}
-use Rattle.pz_bind.specs.Values.{values_at}
+use Rattle.pz_bind_rules.specs.Values.{values_at}
 use Rattle.pz_offer.specs.PlaceOrder.{Place}
-use Rattle.pz_state.specs.States.{StateView, initial, opened as with_frame}
+use Rattle.pz_offer.specs.pz_state.States.{StateView, initial, opened as with_frame}
 use Rattle.pz_rules.specs.declared.limits.Edition.{Edition}
 use Rattle.pz_rules.specs.declared.limits.Edition.TheVariants.{One, Two}
 use Rattle.pz_rules.specs.Terms.{Step, Steps, Term, done, leaf, wait, sequence, parallel, select, guarded, frame, abort, idle, handling, Terms, no_terms, and, term_at, first_or, child, frame_in}

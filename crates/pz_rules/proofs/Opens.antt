@@ -3,16 +3,16 @@
 use Rattle.std.proofs.Common.{◌≡◌, ◌≤◌, ◌+◌, ℕ, zero, suc, List, [], ◌∷◌, ◌++◌, Option, Some, None, refl, arith}
 use Rattle.std.specs.List.{sum_by}
 use Rattle.std.proofs.lemmas.List.Sums.{sum_by-cons, sum_by-append}
-use Rattle.pz_syntax.specs.declared.tokens.Pos.{Pos}
-use Rattle.pz_syntax.specs.declared.names.Id.{Id}
-use Rattle.pz_syntax.specs.ModelForm.{Each}
-use Rattle.pz_syntax.specs.Expressions.{none, more}
-use Rattle.pz_syntax.specs.Statements.{skip, delay, bracketed, block, guarded as guarded_step, parallel as parallel_step, select as select_step, conditional, repeated, abort as abort_step, interrupt, send, receive, call, assignment, value, no_statements, then, Branches, no_branches, branch}
-use Rattle.pz_value.specs.declared.value.ClassId.{ClassId}
-use Rattle.pz_classes_code.specs.declared.slot.Slot.{Slot}
-use Rattle.pz_classes.specs.Bodies.{BodyTree, data_body, process_body}
+use Rattle.pz_bind_rules.specs.pz_syntax.declared.tokens.Pos.{Pos}
+use Rattle.pz_bind_rules.specs.pz_syntax.declared.names.Id.{Id}
+use Rattle.pz_bind_rules.specs.pz_syntax.ModelForm.{Each}
+use Rattle.pz_bind_rules.specs.pz_syntax.Expressions.{none, more}
+use Rattle.pz_bind_rules.specs.pz_syntax.Statements.{skip, delay, bracketed, block, guarded as guarded_step, parallel as parallel_step, select as select_step, conditional, repeated, abort as abort_step, interrupt, send, receive, call, assignment, value, no_statements, then, Branches, no_branches, branch}
+use Rattle.pz_bind_rules.specs.pz_value.declared.value.ClassId.{ClassId}
+use Rattle.pz_bind_rules.specs.pz_classes_code.declared.slot.Slot.{Slot}
+use Rattle.pz_bind_rules.specs.pz_classes_rules.Bodies.{BodyTree, data_body, process_body}
 use Rattle.pz_classes_beginnings.specs.Beginning.{begun, begun_all, begun_each}
-use Rattle.pz_state.specs.States.{StateView, opened as with_frame}
+use Rattle.pz_offer.specs.pz_state.States.{StateView, opened as with_frame}
 use Rattle.pz_rules.specs.declared.limits.Edition.{Edition}
 use Rattle.pz_rules.specs.declared.limits.Edition.TheVariants.{One, Two}
 use Rattle.pz_rules.specs.Terms.{Step, Steps, Term, frame}

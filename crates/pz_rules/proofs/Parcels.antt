@@ -7,15 +7,15 @@ use Rattle.std.proofs.lemmas.Grind.{flat_map-append}
 use Rattle.std.proofs.lemmas.List.{append-nil, append_assoc, take-append-le, take-append-drop}
 use Rattle.std.proofs.lemmas.Option.{slice_get_within}
 use Rattle.std.proofs.lemmas.Map.Steps.{length-le_from_distinct_below}
-use Rattle.pz_value.specs.declared.value.Value.{Value}
-use Rattle.pz_state.specs.Objects.{ObjectView}
-use Rattle.pz_state.specs.States.{StateView, no_object}
-use Rattle.pz_copy.specs.References.{references, IsIn, renumbered}
-use Rattle.pz_copy.specs.Parcels.{ParcelView}
-use Rattle.pz_copy.specs.Packing.{mentioned, IsListing, HasOneListing, place_in, packed_objects, IsParcelOf}
-use Rattle.pz_copy.specs.devices.Gathering.{gathered, IsGathered}
-use Rattle.pz_copy.proofs.Gathered.{in_left, in_right, in_cases, in_head_cases, gathered_firsts, gathered_more, gathered_append, gathers, gathers_only, gathered_distinct, nothing_distinct, seam_distinct}
-use Rattle.pz_copy.proofs.Listings.{inside, begun, gathered_on, gathered_whole}
+use Rattle.pz_bind_rules.specs.pz_value.declared.value.Value.{Value}
+use Rattle.pz_offer.specs.pz_state.Objects.{ObjectView}
+use Rattle.pz_offer.specs.pz_state.States.{StateView, no_object}
+use Rattle.pz_offer.specs.pz_copy.References.{references, IsIn, renumbered}
+use Rattle.pz_offer.specs.pz_copy.Parcels.{ParcelView}
+use Rattle.pz_offer.specs.pz_copy.Packing.{mentioned, IsListing, HasOneListing, place_in, packed_objects, IsParcelOf}
+use Rattle.pz_offer.specs.pz_copy.devices.Gathering.{gathered, IsGathered}
+use Rattle.pz_offer.proofs.pz_copy_proofs.Gathered.{in_left, in_right, in_cases, in_head_cases, gathered_firsts, gathered_more, gathered_append, gathers, gathers_only, gathered_distinct, nothing_distinct, seam_distinct}
+use Rattle.pz_offer.proofs.pz_copy_proofs.Listings.{inside, begun, gathered_on, gathered_whole}
 
 at_seam : (xs : List ℕ) (r : ℕ) (ys : List ℕ) → slice_get (xs ++ r ∷ ys) (length xs) ≡ Some r
 at_seam [] r ys = refl

@@ -1,22 +1,22 @@
 -- Worked terms, which the checker works out.
 use Rattle.std.proofs.Common.{◌≡◌, ℕ, pos, true, false, [], ◌∷◌, Some, Ok, refl}
-use Rattle.pz_syntax.specs.declared.tokens.Pos.{Pos}
-use Rattle.pz_syntax.specs.declared.tokens.Symbol.TheVariants.{Greater}
-use Rattle.pz_syntax.specs.declared.exprs.Literal.TheVariants as literal
-use Rattle.pz_syntax.specs.Expressions.{variable, chain, none, left_out, link, no_links}
-use Rattle.pz_syntax.specs.Expressions as expression
-use Rattle.pz_syntax.specs.Statements.{skip, delay, no_statements, then}
-use Rattle.pz_syntax.specs.Classes.{ModelTree}
-use Rattle.pz_value.specs.declared.value.Value.{Value}
-use Rattle.pz_value.specs.declared.value.Value.TheVariants as value
-use Rattle.pz_classes_code.specs.declared.slot.Slot.TheVariants.{Shared}
-use Rattle.pz_state.specs.States.{StateView}
+use Rattle.pz_bind_rules.specs.pz_syntax.declared.tokens.Pos.{Pos}
+use Rattle.pz_bind_rules.specs.pz_syntax.declared.tokens.Symbol.TheVariants.{Greater}
+use Rattle.pz_bind_rules.specs.pz_syntax.declared.exprs.Literal.TheVariants as literal
+use Rattle.pz_bind_rules.specs.pz_syntax.Expressions.{variable, chain, none, left_out, link, no_links}
+use Rattle.pz_bind_rules.specs.pz_syntax.Expressions as expression
+use Rattle.pz_bind_rules.specs.pz_syntax.Statements.{skip, delay, no_statements, then}
+use Rattle.pz_bind_rules.specs.pz_syntax.Classes.{ModelTree}
+use Rattle.pz_bind_rules.specs.pz_value.declared.value.Value.{Value}
+use Rattle.pz_bind_rules.specs.pz_value.declared.value.Value.TheVariants as value
+use Rattle.pz_bind_rules.specs.pz_classes_code.declared.slot.Slot.TheVariants.{Shared}
+use Rattle.pz_offer.specs.pz_state.States.{StateView}
 use Rattle.pz_prims.specs.Rows.{answered}
 use Rattle.pz_prims.specs.EveryValue.{every_value}
 use Rattle.pz_prims.specs.Integers.{integers}
 use Rattle.pz_prims.specs.Booleans.{booleans}
 use Rattle.pz_prims.specs.Table.{outcome}
-use Rattle.pz_copy.specs.Parcels.{ParcelView}
+use Rattle.pz_offer.specs.pz_copy.Parcels.{ParcelView}
 use Rattle.pz_eval_rules.specs.devices.Computed.{sequence, arguments, operators, replied, selectors, going, turns, step, evaluated}
 use Rattle.pz_rules.specs.declared.action.Kind.TheVariants.{Expire}
 use Rattle.pz_rules.specs.Terms as terms

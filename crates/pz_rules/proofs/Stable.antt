@@ -1,21 +1,21 @@
 -- What a plain call opens as does not depend on how deep calls are followed, once that is deep enough.
 use Rattle.std.proofs.Common.{◌≡◌, refl, sym, ap, subst, ◌∙◌, ◌≤◌, ℕ, zero, suc, List, [], ◌∷◌, ◌++◌, Option, Some, None, arith, Contains}
 use Rattle.std.specs.List.{AllByRecursion}
-use Rattle.pz_syntax.specs.declared.tokens.Pos.{Pos}
-use Rattle.pz_syntax.specs.declared.names.Id.{Id}
-use Rattle.pz_syntax.specs.Expressions.{none, more}
-use Rattle.pz_syntax.specs.Classes.{ModelTree}
-use Rattle.pz_syntax.specs.Statements.{skip, delay, bracketed, block, guarded, parallel, select, conditional, repeated, abort, interrupt, send, receive, call, assignment, value, no_statements, then, Branches, no_branches, branch}
-use Rattle.pz_value.specs.declared.value.ClassId.{ClassId}
-use Rattle.pz_classes_code.specs.declared.slot.Slot.{Slot}
-use Rattle.pz_classes.specs.Bodies.{BodyTree, data_body, process_body}
-use Rattle.pz_classes.specs.FitBodies.{StatementFits, StatementsFit, BranchesFit}
-use Rattle.pz_classes.specs.MethodBodies.{HasBody}
-use Rattle.pz_classes.specs.Methods.{method_id}
-use Rattle.pz_classes.specs.SoundBodies.{BodiesFit, SoundBodiesFit}
+use Rattle.pz_bind_rules.specs.pz_syntax.declared.tokens.Pos.{Pos}
+use Rattle.pz_bind_rules.specs.pz_syntax.declared.names.Id.{Id}
+use Rattle.pz_bind_rules.specs.pz_syntax.Expressions.{none, more}
+use Rattle.pz_bind_rules.specs.pz_syntax.Classes.{ModelTree}
+use Rattle.pz_bind_rules.specs.pz_syntax.Statements.{skip, delay, bracketed, block, guarded, parallel, select, conditional, repeated, abort, interrupt, send, receive, call, assignment, value, no_statements, then, Branches, no_branches, branch}
+use Rattle.pz_bind_rules.specs.pz_value.declared.value.ClassId.{ClassId}
+use Rattle.pz_bind_rules.specs.pz_classes_code.declared.slot.Slot.{Slot}
+use Rattle.pz_bind_rules.specs.pz_classes_rules.Bodies.{BodyTree, data_body, process_body}
+use Rattle.pz_bind_rules.specs.pz_classes_rules.FitBodies.{StatementFits, StatementsFit, BranchesFit}
+use Rattle.pz_bind_rules.specs.pz_classes_rules.MethodBodies.{HasBody}
+use Rattle.pz_bind_rules.specs.pz_classes_rules.Methods.{method_id}
+use Rattle.pz_bind_rules.specs.pz_classes_rules.SoundBodies.{BodiesFit, SoundBodiesFit}
 use Rattle.pz_classes_beginnings.specs.Beginning.{begun, begun_all, begun_each}
 use Rattle.pz_classes_openings.specs.Openings.{called}
-use Rattle.pz_state.specs.States.{StateView, opened as with_frame}
+use Rattle.pz_offer.specs.pz_state.States.{StateView, opened as with_frame}
 use Rattle.pz_rules.specs.declared.limits.Edition.{Edition}
 use Rattle.pz_rules.specs.declared.limits.Edition.TheVariants.{One, Two}
 use Rattle.pz_rules.specs.Terms as terms

@@ -5,12 +5,12 @@ use Rattle.std.specs.Option.{option_map, option_map_or}
 use Rattle.std.proofs.lemmas.Option.{slice_get_within, get_or_from_slice_get, slice_get-map}
 use Rattle.std.proofs.lemmas.List.{length-map}
 use Rattle.std.proofs.lemmas.List.Elements.{filter_passes}
-use Rattle.pz_syntax.specs.Classes.{DeclTree, ModelTree}
-use Rattle.pz_classes.specs.Numbers.{declaration}
-use Rattle.pz_classes.specs.Kinds.{is_process}
-use Rattle.pz_classes.specs.SoundClasses.{ClassesFit}
+use Rattle.pz_bind_rules.specs.pz_syntax.Classes.{DeclTree, ModelTree}
+use Rattle.pz_bind_rules.specs.pz_classes_rules.Numbers.{declaration}
+use Rattle.pz_bind_rules.specs.pz_classes_rules.Kinds.{is_process}
+use Rattle.pz_bind_rules.specs.pz_classes_rules.SoundClasses.{ClassesFit}
 use Rattle.pz_bind_levels.specs.Places.{Address}
-use Rattle.pz_bind.specs.Nest.{class_at, is_process_at, places, processes}
+use Rattle.pz_bind_rules.specs.Nest.{class_at, is_process_at, places, processes}
 use Rattle.pz_rules.specs.Settings.{Setting, Process}
 use Rattle.pz_rules.specs.Configurations.{Config}
 use Rattle.pz_rules.specs.Openable.{IsProcessClass}

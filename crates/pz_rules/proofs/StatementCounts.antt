@@ -1,8 +1,8 @@
 -- A body with slots and numbers in place of names has as many statements.
 use Rattle.std.proofs.Common.{◌≡◌, refl, ap, suc}
-use Rattle.pz_syntax.specs.declared.names.Id.{Id}
-use Rattle.pz_syntax.specs.Statements.{Statement, skip, delay, bracketed, block, guarded, parallel, select, conditional, repeated, abort, interrupt, send, receive, call, assignment, value, Statements, no_statements, then, StatementPart, not_written, otherwise, Branches, no_branches, branch}
-use Rattle.pz_classes_code.specs.Resolution.{Scope, resolved_statement, resolved_statements, resolved_otherwise, resolved_branches}
+use Rattle.pz_bind_rules.specs.pz_syntax.declared.names.Id.{Id}
+use Rattle.pz_bind_rules.specs.pz_syntax.Statements.{Statement, skip, delay, bracketed, block, guarded, parallel, select, conditional, repeated, abort, interrupt, send, receive, call, assignment, value, Statements, no_statements, then, StatementPart, not_written, otherwise, Branches, no_branches, branch}
+use Rattle.pz_bind_rules.specs.pz_classes_code.Resolution.{Scope, resolved_statement, resolved_statements, resolved_otherwise, resolved_branches}
 use Rattle.pz_classes_beginnings.specs.Beginning.{statements_in, statements_in_all, statements_in_part, statements_in_each}
 
 module _ (s : Scope) where

@@ -1,9 +1,9 @@
 -- Where time passes there is a configuration afterwards, in which nothing is left of some delay.
 use Rattle.std.proofs.Common.{◌≡◌, ◌<◌, ◌+◌, ◌-◌, ℕ, zero, suc, Bool, true, List, [], ◌∷◌, length, Some, Result, Ok, refl, sym, subst, ap, ◌∙◌, arith}
 use Rattle.std.specs.Prelude.{slice_get}
-use Rattle.pz_syntax.specs.declared.tokens.Pos.{Pos}
+use Rattle.pz_bind_rules.specs.pz_syntax.declared.tokens.Pos.{Pos}
 use Rattle.pz_bind_levels.specs.Places.{Address as Standing}
-use Rattle.pz_bind.specs.Nest.{processes, class_at}
+use Rattle.pz_bind_rules.specs.Nest.{processes, class_at}
 use Rattle.pz_offer.specs.declared.end.End.{End}
 use Rattle.pz_offer.specs.PlaceOrder.{Place}
 use Rattle.pz_offer.specs.declared.trouble.Trouble.{Trouble}

@@ -2,9 +2,9 @@
 use Rattle.std.proofs.Common.{◌≡◌, ℕ, List, Option, Some, Result, Ok, Err, refl, sym, subst, ap, ◌∙◌}
 use Rattle.std.specs.List.{Contains}
 use Rattle.std.proofs.lemmas.List.Elements.{All-weaker, All-contains_itself}
-use Rattle.pz_syntax.specs.Statements.{send}
-use Rattle.pz_value.specs.declared.value.Value.{Value}
-use Rattle.pz_state.specs.States.{StateView}
+use Rattle.pz_bind_rules.specs.pz_syntax.Statements.{send}
+use Rattle.pz_bind_rules.specs.pz_value.declared.value.Value.{Value}
+use Rattle.pz_offer.specs.pz_state.States.{StateView}
 use Rattle.pz_offer.specs.declared.trouble.Trouble.{Trouble}
 use Rattle.pz_rules.specs.Terms.{Step, Term, leaf}
 use Rattle.pz_rules.specs.Settings.{Context}

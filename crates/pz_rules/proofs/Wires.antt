@@ -4,18 +4,18 @@ use Rattle.std.proofs.Common.{◌≡◌, ◌<◌, ◌⊎◌, inl, inr, ℕ, suc,
 use Rattle.std.specs.List.{list_any, All, Contains}
 use Rattle.std.proofs.lemmas.Option.{slice_get_within}
 use Rattle.std.proofs.lemmas.Slice.Eq.{bytes_eq-Decides}
-use Rattle.pz_syntax.specs.declared.clusters.Instance.{Instance}
-use Rattle.pz_syntax.specs.declared.clusters.Channel.{Channel as Written}
-use Rattle.pz_syntax.specs.declared.clusters.ChannelEnd.{ChannelEnd}
-use Rattle.pz_syntax.specs.declared.clusters.ChannelEnd.TheVariants.{Inner, Outer}
-use Rattle.pz_syntax.specs.Classes.{ModelTree}
-use Rattle.pz_classes.specs.Members.{ports, spelled}
-use Rattle.pz_classes.specs.Soundness.{IsSound}
+use Rattle.pz_bind_rules.specs.pz_syntax.declared.clusters.Instance.{Instance}
+use Rattle.pz_bind_rules.specs.pz_syntax.declared.clusters.Channel.{Channel as Written}
+use Rattle.pz_bind_rules.specs.pz_syntax.declared.clusters.ChannelEnd.{ChannelEnd}
+use Rattle.pz_bind_rules.specs.pz_syntax.declared.clusters.ChannelEnd.TheVariants.{Inner, Outer}
+use Rattle.pz_bind_rules.specs.pz_syntax.Classes.{ModelTree}
+use Rattle.pz_bind_rules.specs.pz_classes_rules.Members.{ports, spelled}
+use Rattle.pz_bind_rules.specs.pz_classes_rules.Soundness.{IsSound}
 use Rattle.pz_bind_levels.specs.Places.{Address}
 use Rattle.pz_bind_levels.specs.Wires.{Channel, channel}
-use Rattle.pz_bind.specs.Nest.{processes, class_at, instance_at, channels_at}
-use Rattle.pz_bind.specs.Connections.{PortEnd, end, is_outer, names_inner, IsIn, is_in, Joined, joined, Leads, itself, outwards, Reaches}
-use Rattle.pz_bind.specs.Wires.{wires, HasWire, EndsShareWires}
+use Rattle.pz_bind_rules.specs.Nest.{processes, class_at, instance_at, channels_at}
+use Rattle.pz_bind_rules.specs.Connections.{PortEnd, end, is_outer, names_inner, IsIn, is_in, Joined, joined, Leads, itself, outwards, Reaches}
+use Rattle.pz_bind_rules.specs.Wires.{wires, HasWire, EndsShareWires}
 use Rattle.pz_rules.specs.Ports.{IsWire, HasWires}
 use Rattle.pz_rules.proofs.Locals.{some_is, no_some}
 use Rattle.pz_rules.proofs.Lists.{Contains-cases}

@@ -1,5 +1,5 @@
 -- The parts that act: by themselves, by a send, or by a receive.
-use Rattle.pz_syntax.specs.Statements.{skip, delay, block, conditional, repeated, call, value, send, receive}
+use Rattle.pz_bind_rules.specs.pz_syntax.Statements.{skip, delay, block, conditional, repeated, call, value, send, receive}
 use Rattle.pz_rules.specs.Terms.{Step, Term, leaf, wait}
 
 abbrev pub ActsAlone : Step → Type 0

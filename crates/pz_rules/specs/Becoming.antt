@@ -1,6 +1,6 @@
 -- What has become of a process.
 use Rattle.std.specs.Prelude.{◌≡◌}
-use Rattle.pz_state.specs.Marks.{Seen, changed}
+use Rattle.pz_offer.specs.pz_state.Marks.{Seen, changed}
 use Rattle.pz_rules.specs.Terms.{Term}
 use Rattle.pz_rules.specs.Settings.{Process}
 

@@ -1,19 +1,19 @@
 -- Laws of plain calls, those without inputs and without results.
 use Rattle.std.specs.Prelude.{◌≡◌, ◌≤◌, ◌+◌, ℕ, List, [], length, Some}
-use Rattle.pz_syntax.specs.declared.tokens.Pos.{Pos}
-use Rattle.pz_syntax.specs.declared.names.Id.{Id}
-use Rattle.pz_syntax.specs.Expressions.{none}
-use Rattle.pz_syntax.specs.Statements.{call}
-use Rattle.pz_syntax.specs.Classes.{ModelTree}
-use Rattle.pz_check_violations.specs.declared.violation.Violation.{Violation}
-use Rattle.pz_classes.specs.declared.method_id.Counts.TheVariants.{Process as process_counts}
-use Rattle.pz_classes.specs.Bodies.{process_body}
-use Rattle.pz_classes.specs.MethodBodies.{HasBody}
-use Rattle.pz_classes.specs.Soundness.{IsSound}
-use Rattle.pz_classes.specs.Starts.{init}
+use Rattle.pz_bind_rules.specs.pz_syntax.declared.tokens.Pos.{Pos}
+use Rattle.pz_bind_rules.specs.pz_syntax.declared.names.Id.{Id}
+use Rattle.pz_bind_rules.specs.pz_syntax.Expressions.{none}
+use Rattle.pz_bind_rules.specs.pz_syntax.Statements.{call}
+use Rattle.pz_bind_rules.specs.pz_syntax.Classes.{ModelTree}
+use Rattle.pz_bind_rules.specs.pz_check_violations.declared.violation.Violation.{Violation}
+use Rattle.pz_bind_rules.specs.pz_classes_rules.declared.method_id.Counts.TheVariants.{Process as process_counts}
+use Rattle.pz_bind_rules.specs.pz_classes_rules.Bodies.{process_body}
+use Rattle.pz_bind_rules.specs.pz_classes_rules.MethodBodies.{HasBody}
+use Rattle.pz_bind_rules.specs.pz_classes_rules.Soundness.{IsSound}
+use Rattle.pz_bind_rules.specs.pz_classes_rules.Starts.{init}
 use Rattle.pz_classes_openings.specs.Openings.{HasMethod}
 use Rattle.pz_classes_openings.specs.OpeningRules.{BreaksC23, Opens}
-use Rattle.pz_state.specs.States.{StateView}
+use Rattle.pz_offer.specs.pz_state.States.{StateView}
 use Rattle.pz_rules.specs.declared.limits.Edition.TheVariants.{One, Two}
 use Rattle.pz_rules.specs.Terms.{Step, Steps, leaf}
 use Rattle.pz_rules.specs.Settings.{left_by, Home}

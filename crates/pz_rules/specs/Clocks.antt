@@ -1,7 +1,7 @@
 -- How far the clock comes in a run.
 use Rattle.std.specs.Prelude.{◌≡◌, ℕ, suc, ◌<◌, ◌≤◌, ◌^◌, List, [], ◌∷◌}
-use Rattle.pz_syntax.specs.ModelText.{HasFewMarks}
-use Rattle.pz_classes.specs.Soundness.{IsSound}
+use Rattle.pz_bind_rules.specs.pz_syntax.ModelText.{HasFewMarks}
+use Rattle.pz_bind_rules.specs.pz_classes_rules.Soundness.{IsSound}
 use Rattle.pz_classes_openings.specs.OpeningRules.{Opens}
 use Rattle.pz_rules.specs.declared.limits.Edition.TheVariants.{Two}
 use Rattle.pz_rules.specs.Settings.{Setting}

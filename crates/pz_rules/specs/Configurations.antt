@@ -1,7 +1,7 @@
 -- Where a model stands: the clock, and each process in the order of the text.
 use Rattle.std.specs.Prelude.{◌≡◌, ℕ, List, length, Some, slice_get}
 use Rattle.pz_bind_levels.specs.Places.{Address}
-use Rattle.pz_bind.specs.Nest.{processes, class_at}
+use Rattle.pz_bind_rules.specs.Nest.{processes, class_at}
 use Rattle.pz_rules.specs.Settings.{Setting, Process, Context}
 
 pub record Config : Type 0 where

@@ -1,10 +1,10 @@
 -- Configurations whose terms fit the classes of their processes: all that their statements name is
 -- there. Those of a sound model are so from the start, and stay so.
 use Rattle.std.specs.Prelude.{◌≡◌, ℕ, All, Some, slice_get}
-use Rattle.pz_syntax.specs.Classes.{ModelTree}
-use Rattle.pz_classes.specs.FitBodies.{process_code, SlotFits, ExpressionFits, StatementFits, StatementsFit}
+use Rattle.pz_bind_rules.specs.pz_syntax.Classes.{ModelTree}
+use Rattle.pz_bind_rules.specs.pz_classes_rules.FitBodies.{process_code, SlotFits, ExpressionFits, StatementFits, StatementsFit}
 use Rattle.pz_bind_levels.specs.Places.{Address}
-use Rattle.pz_bind.specs.Nest.{processes, class_at}
+use Rattle.pz_bind_rules.specs.Nest.{processes, class_at}
 use Rattle.pz_rules.specs.Terms.{Term, done, leaf, wait, sequence, parallel, select, guarded, frame, abort, idle, handling, Terms, no_terms, and}
 use Rattle.pz_rules.specs.Settings.{Setting, Process}
 use Rattle.pz_rules.specs.Configurations.{Config}

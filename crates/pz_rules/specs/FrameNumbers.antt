@@ -1,7 +1,7 @@
 -- The number of a frame that opens: the first from 1 on that no open frame has.
 use Rattle.std.specs.Prelude.{ℕ, zero, suc, max, List, [], ◌∷◌, Option, Some, None}
-use Rattle.pz_value.specs.declared.value.Value.{Value}
-use Rattle.pz_state.specs.States.{Frames, locals_in}
+use Rattle.pz_bind_rules.specs.pz_value.declared.value.Value.{Value}
+use Rattle.pz_offer.specs.pz_state.States.{Frames, locals_in}
 
 -- a number above those of all open frames
 abbrev pub above : Frames → ℕ

@@ -1,6 +1,6 @@
 -- A frame round a term.
 use Rattle.std.specs.Prelude.{ℕ, List, []}
-use Rattle.pz_classes_code.specs.declared.slot.Slot.{Slot}
+use Rattle.pz_bind_rules.specs.pz_classes_code.declared.slot.Slot.{Slot}
 use Rattle.pz_rules.specs.Terms.{Term, frame}
 
 -- A frame without outputs that is all of a frame without outputs stands in its place, so that calls

@@ -1,11 +1,11 @@
 -- What the outcome of an evaluation means where a value of some sort is wanted, or the trouble that
 -- it is. A trouble names the process i, and the statement's place where the evaluation names none.
 use Rattle.std.specs.Prelude.{ℕ, pos, negsuc, Bool, Result, Ok, Err}
-use Rattle.pz_syntax.specs.declared.tokens.Pos.{Pos}
-use Rattle.pz_value.specs.declared.value.Value.{Value}
-use Rattle.pz_value.specs.declared.value.Value.TheVariants as value
-use Rattle.pz_state.specs.declared.fault.FaultKind.{FaultKind}
-use Rattle.pz_state.specs.declared.fault.FaultKind.TheVariants.{NegativeDelay, NotBoolean, NotInteger}
+use Rattle.pz_bind_rules.specs.pz_syntax.declared.tokens.Pos.{Pos}
+use Rattle.pz_bind_rules.specs.pz_value.declared.value.Value.{Value}
+use Rattle.pz_bind_rules.specs.pz_value.declared.value.Value.TheVariants as value
+use Rattle.pz_offer.specs.pz_state.declared.fault.FaultKind.{FaultKind}
+use Rattle.pz_offer.specs.pz_state.declared.fault.FaultKind.TheVariants.{NegativeDelay, NotBoolean, NotInteger}
 use Rattle.pz_offer.specs.declared.trouble.Trouble.{Trouble}
 use Rattle.pz_offer.specs.declared.trouble.Trouble.TheVariants.{Fault}
 

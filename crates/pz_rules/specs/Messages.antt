@@ -1,17 +1,17 @@
 -- What an active part sends or receives, and what a communication does to it.
 use Rattle.std.specs.Prelude.{◌≤◌, ◌+◌, ℕ, Bool, true, List, [], length, Option, Some, None, unwrap_or, Result, Ok}
-use Rattle.pz_syntax.specs.declared.tokens.Pos.{Pos}
-use Rattle.pz_syntax.specs.declared.names.Id.{Id}
-use Rattle.pz_syntax.specs.Expressions.{Part}
-use Rattle.pz_syntax.specs.Statements.{send, receive}
-use Rattle.pz_value.specs.declared.value.ClassId.{ClassId}
-use Rattle.pz_value.specs.declared.value.Value.{Value}
-use Rattle.pz_classes_code.specs.declared.slot.Slot.{Slot}
-use Rattle.pz_state.specs.States.{object_limit}
-use Rattle.pz_state.specs.declared.fault.FaultKind.TheVariants.{StoreFull}
-use Rattle.pz_state.specs.States.{StateView}
-use Rattle.pz_copy.specs.Parcels.{ParcelView}
-use Rattle.pz_copy.specs.Packing.{IsParcelOf}
+use Rattle.pz_bind_rules.specs.pz_syntax.declared.tokens.Pos.{Pos}
+use Rattle.pz_bind_rules.specs.pz_syntax.declared.names.Id.{Id}
+use Rattle.pz_bind_rules.specs.pz_syntax.Expressions.{Part}
+use Rattle.pz_bind_rules.specs.pz_syntax.Statements.{send, receive}
+use Rattle.pz_bind_rules.specs.pz_value.declared.value.ClassId.{ClassId}
+use Rattle.pz_bind_rules.specs.pz_value.declared.value.Value.{Value}
+use Rattle.pz_bind_rules.specs.pz_classes_code.declared.slot.Slot.{Slot}
+use Rattle.pz_offer.specs.pz_state.States.{object_limit}
+use Rattle.pz_offer.specs.pz_state.declared.fault.FaultKind.TheVariants.{StoreFull}
+use Rattle.pz_offer.specs.pz_state.States.{StateView}
+use Rattle.pz_offer.specs.pz_copy.Parcels.{ParcelView}
+use Rattle.pz_offer.specs.pz_copy.Packing.{IsParcelOf}
 use Rattle.pz_offer.specs.declared.trouble.Trouble.{Trouble}
 use Rattle.pz_rules.specs.Terms.{Code, Term, leaf}
 use Rattle.pz_rules.specs.Settings.{Context, Process, in_state}

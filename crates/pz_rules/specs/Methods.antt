@@ -1,8 +1,8 @@
 -- The body of a method of a process class.
 use Rattle.std.specs.Prelude.{◌≡◌, ℕ, List, Some}
-use Rattle.pz_syntax.specs.Classes.{ModelTree}
-use Rattle.pz_classes.specs.Bodies.{process_body}
-use Rattle.pz_classes.specs.MethodBodies.{process_method_body}
+use Rattle.pz_bind_rules.specs.pz_syntax.Classes.{ModelTree}
+use Rattle.pz_bind_rules.specs.pz_classes_rules.Bodies.{process_body}
+use Rattle.pz_bind_rules.specs.pz_classes_rules.MethodBodies.{process_method_body}
 use Rattle.pz_rules.specs.Terms.{Steps}
 
 -- that of the nearest ancestor that has a method of this name with so many inputs and outputs; it has

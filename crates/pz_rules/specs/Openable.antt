@@ -1,19 +1,19 @@
 -- Which statements of a process may be opened, and in which frame.
 use Rattle.std.specs.Prelude.{◌≡◌, ℕ, false, List, [], ◌∷◌, length, Contains, Some, IsTrue}
 use Rattle.std.specs.Option.{option_map_or}
-use Rattle.pz_syntax.specs.Statements.{bracketed, guarded, parallel, select, conditional, repeated, abort, interrupt, no_statements, then, StatementPart, not_written, otherwise, Branches, no_branches, branch}
-use Rattle.pz_syntax.specs.Classes.{ModelTree}
-use Rattle.pz_value.specs.declared.value.ClassId.{ClassId}
-use Rattle.pz_classes_code.specs.declared.slot.Slot.{Slot}
-use Rattle.pz_classes.specs.Ancestors.{ancestors}
-use Rattle.pz_classes.specs.Bodies.{process_body}
-use Rattle.pz_classes.specs.Kinds.{is_process}
-use Rattle.pz_classes.specs.Members.{variables}
-use Rattle.pz_classes.specs.MethodBodies.{own_body}
-use Rattle.pz_classes.specs.Methods.{Signature}
-use Rattle.pz_classes.specs.Numbers.{declaration}
-use Rattle.pz_classes.specs.Starts.{init}
-use Rattle.pz_state.specs.States.{StateView, HasFrame, locals}
+use Rattle.pz_bind_rules.specs.pz_syntax.Statements.{bracketed, guarded, parallel, select, conditional, repeated, abort, interrupt, no_statements, then, StatementPart, not_written, otherwise, Branches, no_branches, branch}
+use Rattle.pz_bind_rules.specs.pz_syntax.Classes.{ModelTree}
+use Rattle.pz_bind_rules.specs.pz_value.declared.value.ClassId.{ClassId}
+use Rattle.pz_bind_rules.specs.pz_classes_code.declared.slot.Slot.{Slot}
+use Rattle.pz_bind_rules.specs.pz_classes_rules.Ancestors.{ancestors}
+use Rattle.pz_bind_rules.specs.pz_classes_rules.Bodies.{process_body}
+use Rattle.pz_bind_rules.specs.pz_classes_rules.Kinds.{is_process}
+use Rattle.pz_bind_rules.specs.pz_classes_rules.Members.{variables}
+use Rattle.pz_bind_rules.specs.pz_classes_rules.MethodBodies.{own_body}
+use Rattle.pz_bind_rules.specs.pz_classes_rules.Methods.{Signature}
+use Rattle.pz_bind_rules.specs.pz_classes_rules.Numbers.{declaration}
+use Rattle.pz_bind_rules.specs.pz_classes_rules.Starts.{init}
+use Rattle.pz_offer.specs.pz_state.States.{StateView, HasFrame, locals}
 use Rattle.pz_rules.specs.Terms.{Step, Steps}
 
 abbrev pub IsProcessClass : ModelTree → ℕ → Type 0

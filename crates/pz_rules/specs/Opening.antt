@@ -3,16 +3,16 @@
 -- before it leave. In edition Two so does a plain call, one without inputs and without results: as the
 -- frame of its method's body, by the class of the process. Every other statement stands as it is.
 use Rattle.std.specs.Prelude.{ℕ, zero, suc, [], length, Option, Some, None}
-use Rattle.pz_syntax.specs.declared.names.Id.{Id}
-use Rattle.pz_syntax.specs.Expressions.{none}
-use Rattle.pz_syntax.specs.Statements.{bracketed, guarded, parallel, select, abort, interrupt, call, no_statements, then, StatementPart, not_written, otherwise, Branches, no_branches, branch}
-use Rattle.pz_syntax.specs.Classes.{ModelTree}
-use Rattle.pz_value.specs.declared.value.ClassId.{ClassId}
-use Rattle.pz_classes_code.specs.declared.slot.Slot.{Slot}
-use Rattle.pz_classes.specs.Bodies.{BodyTree, data_body, process_body}
-use Rattle.pz_classes.specs.MethodBodies.{process_method_body}
+use Rattle.pz_bind_rules.specs.pz_syntax.declared.names.Id.{Id}
+use Rattle.pz_bind_rules.specs.pz_syntax.Expressions.{none}
+use Rattle.pz_bind_rules.specs.pz_syntax.Statements.{bracketed, guarded, parallel, select, abort, interrupt, call, no_statements, then, StatementPart, not_written, otherwise, Branches, no_branches, branch}
+use Rattle.pz_bind_rules.specs.pz_syntax.Classes.{ModelTree}
+use Rattle.pz_bind_rules.specs.pz_value.declared.value.ClassId.{ClassId}
+use Rattle.pz_bind_rules.specs.pz_classes_code.declared.slot.Slot.{Slot}
+use Rattle.pz_bind_rules.specs.pz_classes_rules.Bodies.{BodyTree, data_body, process_body}
+use Rattle.pz_bind_rules.specs.pz_classes_rules.MethodBodies.{process_method_body}
 use Rattle.pz_classes_openings.specs.Methods.{methods}
-use Rattle.pz_state.specs.States.{StateView, opened as with_frame}
+use Rattle.pz_offer.specs.pz_state.States.{StateView, opened as with_frame}
 use Rattle.pz_rules.specs.declared.limits.Edition.{Edition}
 use Rattle.pz_rules.specs.declared.limits.Edition.TheVariants.{One, Two}
 use Rattle.pz_rules.specs.Terms.{Step, Steps, done, leaf, sequence, Terms, no_terms, and}

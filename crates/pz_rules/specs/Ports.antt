@@ -1,11 +1,11 @@
 -- The wires of the ports of processes.
 use Rattle.std.specs.Prelude.{◌≡◌, ℕ, List, Option, Some, slice_get}
-use Rattle.pz_syntax.specs.Classes.{ModelTree}
-use Rattle.pz_classes.specs.Members.{ports, spelled}
+use Rattle.pz_bind_rules.specs.pz_syntax.Classes.{ModelTree}
+use Rattle.pz_bind_rules.specs.pz_classes_rules.Members.{ports, spelled}
 use Rattle.pz_bind_levels.specs.Places.{Address}
-use Rattle.pz_bind.specs.Nest.{processes, class_at}
-use Rattle.pz_bind.specs.Connections.{end}
-use Rattle.pz_bind.specs.Wires.{HasWire}
+use Rattle.pz_bind_rules.specs.Nest.{processes, class_at}
+use Rattle.pz_bind_rules.specs.Connections.{end}
+use Rattle.pz_bind_rules.specs.Wires.{HasWire}
 
 -- the port of this number of process i has this wire
 pub record IsWire (m : ModelTree) (i port wire : ℕ) : Type 0 where

@@ -1,7 +1,7 @@
 -- What a run stands on, and a process at a moment of it.
 use Rattle.std.specs.Prelude.{ℕ}
-use Rattle.pz_syntax.specs.Classes.{ModelTree}
-use Rattle.pz_state.specs.States.{StateView}
+use Rattle.pz_bind_rules.specs.pz_syntax.Classes.{ModelTree}
+use Rattle.pz_offer.specs.pz_state.States.{StateView}
 use Rattle.pz_rules.specs.declared.limits.Edition.{Edition}
 use Rattle.pz_rules.specs.declared.limits.Limits.{Limits}
 use Rattle.pz_rules.specs.Terms.{Term}

@@ -1,8 +1,8 @@
 -- How deep methods open in one another.
 use Rattle.std.specs.Prelude.{◌≡◌, ℕ, zero, suc, Some, Contains}
-use Rattle.pz_syntax.specs.declared.names.Id.{Id}
-use Rattle.pz_syntax.specs.Classes.{ModelTree}
-use Rattle.pz_classes.specs.Methods.{method_id}
+use Rattle.pz_bind_rules.specs.pz_syntax.declared.names.Id.{Id}
+use Rattle.pz_bind_rules.specs.pz_syntax.Classes.{ModelTree}
+use Rattle.pz_bind_rules.specs.pz_classes_rules.Methods.{method_id}
 use Rattle.pz_classes_openings.specs.Openings.{begun_at, called}
 
 -- In class c no more than so many methods open in one another from method k on, itself counted.

@@ -1,7 +1,7 @@
 -- Terms and configurations with less than 2^64 clock units left of each delay.
 use Rattle.std.specs.Prelude.{◌≡◌, ◌<◌, ◌^◌, ℕ, Some, Ok, slice_get}
-use Rattle.pz_syntax.specs.declared.tokens.Pos.{Pos}
-use Rattle.pz_syntax.specs.Statements.{delay}
+use Rattle.pz_bind_rules.specs.pz_syntax.declared.tokens.Pos.{Pos}
+use Rattle.pz_bind_rules.specs.pz_syntax.Statements.{delay}
 use Rattle.pz_offer.specs.declared.end.End.{End}
 use Rattle.pz_rules.specs.Terms.{Code, Term, done, leaf, wait, sequence, parallel, select, guarded, frame, abort, idle, handling, Terms, no_terms, and}
 use Rattle.pz_rules.specs.Settings.{Setting, Process, Context}

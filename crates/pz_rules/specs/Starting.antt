@@ -1,11 +1,11 @@
 -- Where a model starts: at clock 0, in each process the call that its `init` names, opened, with the
 -- given parameters and all other variables nil.
 use Rattle.std.specs.Prelude.{◌≡◌, ℕ, length, Some, slice_get}
-use Rattle.pz_classes.specs.Starts.{init}
+use Rattle.pz_bind_rules.specs.pz_classes_rules.Starts.{init}
 use Rattle.pz_bind_levels.specs.Places.{Address}
-use Rattle.pz_bind.specs.Nest.{processes, class_at}
-use Rattle.pz_bind.specs.Values.{values_at}
-use Rattle.pz_state.specs.States.{initial}
+use Rattle.pz_bind_rules.specs.Nest.{processes, class_at}
+use Rattle.pz_bind_rules.specs.Values.{values_at}
+use Rattle.pz_offer.specs.pz_state.States.{initial}
 use Rattle.pz_rules.specs.Terms.{Step}
 use Rattle.pz_rules.specs.Settings.{Setting, Process, Home}
 use Rattle.pz_rules.specs.Opening.{opened}

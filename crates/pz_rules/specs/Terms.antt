@@ -1,10 +1,10 @@
 -- What is left of a process.
 use Rattle.std.specs.Prelude.{ℕ, zero, suc, max, List, [], ◌∷◌, ◌++◌}
-use Rattle.pz_syntax.specs.declared.tokens.Pos.{Pos}
-use Rattle.pz_syntax.specs.Expressions.{Expression, Expressions}
-use Rattle.pz_syntax.specs.Statements.{Statement, Statements}
-use Rattle.pz_value.specs.declared.value.ClassId.{ClassId}
-use Rattle.pz_classes_code.specs.declared.slot.Slot.{Slot}
+use Rattle.pz_bind_rules.specs.pz_syntax.declared.tokens.Pos.{Pos}
+use Rattle.pz_bind_rules.specs.pz_syntax.Expressions.{Expression, Expressions}
+use Rattle.pz_bind_rules.specs.pz_syntax.Statements.{Statement, Statements}
+use Rattle.pz_bind_rules.specs.pz_value.declared.value.ClassId.{ClassId}
+use Rattle.pz_bind_rules.specs.pz_classes_code.declared.slot.Slot.{Slot}
 
 -- expressions and statements of bodies, with slots and numbers in place of names
 abbrev pub Code : Type 0

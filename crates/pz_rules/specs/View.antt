@@ -1,11 +1,11 @@
 -- What the code's terms stand for.
 use Rattle.std.specs.Prelude.{ℕ, List, [], ◌∷◌, map}
-use Rattle.pz_syntax.specs.Statements.{Branches}
-use Rattle.pz_value.specs.declared.value.ClassId.{ClassId}
-use Rattle.pz_classes_code.specs.declared.slot.Slot.{Slot}
-use Rattle.pz_classes_code.specs.declared.step.Step.{Step}
-use Rattle.pz_classes_code.specs.CodeView as code
-use Rattle.pz_classes_code.specs.StepView as step
+use Rattle.pz_bind_rules.specs.pz_syntax.Statements.{Branches}
+use Rattle.pz_bind_rules.specs.pz_value.declared.value.ClassId.{ClassId}
+use Rattle.pz_bind_rules.specs.pz_classes_code.declared.slot.Slot.{Slot}
+use Rattle.pz_bind_rules.specs.pz_classes_code.declared.step.Step.{Step}
+use Rattle.pz_bind_rules.specs.pz_classes_code.CodeView as code
+use Rattle.pz_bind_rules.specs.pz_classes_code.StepView as step
 use Rattle.pz_rules.specs.declared.term.Term.{Term, fold-Term}
 use Rattle.pz_rules.specs.declared.term.Term.TheOpen.{Term-F}
 use Rattle.pz_rules.specs.Terms as terms

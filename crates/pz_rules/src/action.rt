@@ -1,6 +1,6 @@
-use pz_copy::Parcel;
+use pz_bind_rules::pz_syntax::{Name, Pos};
 use pz_offer::End;
-use pz_syntax::{Name, Pos};
+use pz_offer::pz_copy::Parcel;
 
 /// The kinds of internal actions.
 #[derive(Clone, Copy, Debug, PartialEq, Eq)]

@@ -25,7 +25,7 @@ pub fn one_list_of_offers()
 pub fn wires_are_known()
     ensures law { WiresAreKnown }
 {
-    pz_bind::laws::ends_share_wires();
+    pz_bind_rules::laws::ends_share_wires();
 }
 
 /// A configuration has no more than one moment, and has one where the wires of its model are known. A
@@ -67,7 +67,7 @@ pub fn what_fits_goes_on()
     ensures stays { StaysFit }
     ensures some { EveryNext }
 {
-    pz_classes::laws::sound_bodies_fit();
+    pz_bind_rules::pz_classes_rules::laws::sound_bodies_fit();
 }
 
 /// What a policy chooses is a run of the rules. Where as many processes stand as the model has, it
@@ -78,7 +78,7 @@ pub fn one_chosen_run()
     ensures some { EveryChosenRun }
     ensures is_run { ChosenRunsAreRuns }
 {
-    pz_classes::laws::sound_bodies_fit();
+    pz_bind_rules::pz_classes_rules::laws::sound_bodies_fit();
 }
 
 /// One walk of a term lists the internal actions, sends, receives, delays and troubles of its active
@@ -164,7 +164,7 @@ pub fn start_is_one()
     ensures some { EveryStart }
     ensures computed { StartIsComputed }
 {
-    pz_classes::laws::sound_classes_fit();
+    pz_bind_rules::pz_classes_rules::laws::sound_classes_fit();
 }
 
 /// Each process of a model is of a process class.
@@ -183,7 +183,7 @@ pub fn calls_unfold()
     ensures none { CallsOfNoneStand }
     ensures heavier { CallsAreHeavier }
 {
-    pz_classes::laws::sound_bodies_fit();
+    pz_bind_rules::pz_classes_rules::laws::sound_bodies_fit();
 }
 
 /// In edition Two, in a model whose openings end and are not too large, what opens out of a body of a

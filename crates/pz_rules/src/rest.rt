@@ -1,8 +1,8 @@
 ghost use Rattle.std.specs.Prelude.{◌≡◌, [], ◌∷◌, drop, length, ◌==◌, slice_get};
 ghost use Rattle.std.specs.Option.{option_copied};
 
-use pz_classes_code::Step;
-use pz_items::{Items, Shared};
+use pz_bind_rules::pz_classes_code::Step;
+use pz_bind_rules::pz_items::{Items, Shared};
 use std::marker::Model;
 
 /// The statements behind the one that is open. Contracts see them in the order in which they come.
@@ -26,8 +26,8 @@ enum Waiting {
 impl Model for Rest {
     ghost use Rattle.std.specs.Prelude.{List};
     ghost use Rattle.std.specs.Coded.{codes};
-    ghost use Rattle.pz_classes_code.specs.declared.step.Step.{Step};
-    ghost use Rattle.pz_classes_code.specs.contracts.step.Step as step;
+    ghost use Rattle.pz_bind_rules.specs.pz_classes_code.declared.step.Step.{Step};
+    ghost use Rattle.pz_bind_rules.specs.pz_classes_code.contracts.step.Step as step;
     ghost use Rattle.pz_rules.specs.RestView.{steps_waiting};
 
     ghost Value = { List Step };

@@ -1,8 +1,8 @@
 use crate::Rest;
-use pz_classes_code::{Code, Slot, Step};
-use pz_items::{Boxed, Items, Shared};
-use pz_state::FrameId;
-use pz_syntax::Pos;
+use pz_bind_rules::pz_classes_code::{Code, Slot, Step};
+use pz_bind_rules::pz_items::{Boxed, Items, Shared};
+use pz_bind_rules::pz_syntax::Pos;
+use pz_offer::pz_state::FrameId;
 
 /// What is left of a process.
 #[derive(Drop)]

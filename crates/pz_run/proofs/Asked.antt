@@ -9,13 +9,13 @@ use Rattle.pz_words.specs.declared.options.OptionWord.TheVariants.{Chooses, Step
 use Rattle.pz_words.specs.Options.{step_limit, IsAllowed, nothing_said, with_option, said_with, AreOptions}
 use Rattle.pz_words.specs.Jobs.{Asks, IsAsked, or_else, usual_steps, usual_units}
 use Rattle.pz_words.specs.Jobs as jobs
-use Rattle.pz_run.specs.declared.status.Status.{Status}
-use Rattle.pz_term_simulator.specs.Simulations.{Simulation}
-use Rattle.pz_run.specs.Words.{OfAsked}
-use Rattle.pz_run.specs.Promises.{CameThrough}
+use Rattle.pz_run_output.specs.declared.status.Status.{Status}
+use Rattle.pz_sim.specs.pz_term_simulator.Simulations.{Simulation}
+use Rattle.pz_run_output.specs.Words.{OfAsked}
+use Rattle.pz_run_output.specs.Promises.{CameThrough}
 use Rattle.pz_run.specs.HandedOut.{HandsOut}
-use Rattle.pz_run.specs.devices.Words.{HasRingSize, HasFewActions, HasUnits}
-use Rattle.pz_run.specs.devices.Keeping.{KeepsPromises}
+use Rattle.pz_run_output.specs.devices.Words.{HasRingSize, HasFewActions, HasUnits}
+use Rattle.pz_run_output.specs.devices.Keeping.{KeepsPromises}
 
 one_asked : (words : List (List ℕ)) (x y : Option Job) → IsAsked words x → IsAsked words y → x ≡ y
 one_asked words (Some j) y a b = sym ((b j).1 ((a j).0 refl))

@@ -1,31 +1,31 @@
 -- The promises of a run that a script drives.
 use Rattle.std.proofs.Common.{◌≡◌, ◌∙◌, ◌≤◌, ℕ, List, true, Some, length, refl, sym, subst, ap}
 use Rattle.pz_io.specs.Outside.{Entries, FilesState, SinkState, lookup}
-use Rattle.pz_syntax.specs.Classes.{ModelTree}
-use Rattle.pz_rules.specs.Runs.{Ending}
+use Rattle.pz_bind.specs.pz_syntax.Classes.{ModelTree}
+use Rattle.pz_run_output.specs.pz_trace.pz_rules.Runs.{Ending}
 use Rattle.pz_words.specs.declared.jobs.Choice.{Choice}
 use Rattle.pz_words.specs.declared.jobs.RunLimits.{RunLimits}
 use Rattle.pz_words.specs.declared.jobs.Job.{Job}
 use Rattle.pz_words.specs.declared.jobs.Job.TheVariants.{Replay, Drive}
-use Rattle.pz_env_script.specs.declared.entry.Entry.{Entry}
-use Rattle.pz_run_reading.specs.Openings.{IsOpenModelOf}
-use Rattle.pz_run.specs.Limits.{script_limit}
-use Rattle.pz_run.specs.declared.play.Play.{Play}
-use Rattle.pz_run.specs.declared.status.Status.{Status}
-use Rattle.pz_run.specs.declared.status.Status.TheVariants.{ScriptRefused}
-use Rattle.pz_run.specs.Files.{script_file}
-use Rattle.pz_run.specs.Plays.{play_of, driven_play, DrivenRunOf}
-use Rattle.pz_run.specs.Scripts.{IsScriptFor, IsScriptRefused}
-use Rattle.pz_run.specs.Status.{status_of}
-use Rattle.pz_run.specs.Output.{PrintsDriven, no_script, drives}
-use Rattle.pz_run.specs.Promises.{ChosenEnds, HasTrace, HasEnding, of_choice, of_trace, of_watches, of_script, HasScript, DrivenEnds, RefusesScript}
-use Rattle.pz_run.specs.Promises as promises
-use Rattle.pz_run.specs.devices.Keeping.{KeepsPromises}
-use Rattle.pz_run.specs.devices.TwoFiles.{IsOnlyOpen, AnswersFiles}
+use Rattle.pz_run_output.specs.pz_env_closing.pz_env_script.declared.entry.Entry.{Entry}
+use Rattle.pz_run_output.specs.pz_run_lines.pz_run_reading.Openings.{IsOpenModelOf}
+use Rattle.pz_run_output.specs.Limits.{script_limit}
+use Rattle.pz_run_output.specs.declared.play.Play.{Play}
+use Rattle.pz_run_output.specs.declared.status.Status.{Status}
+use Rattle.pz_run_output.specs.declared.status.Status.TheVariants.{ScriptRefused}
+use Rattle.pz_run_output.specs.Files.{script_file}
+use Rattle.pz_run_output.specs.Plays.{play_of, driven_play, DrivenRunOf}
+use Rattle.pz_run_output.specs.Scripts.{IsScriptFor, IsScriptRefused}
+use Rattle.pz_run_output.specs.Status.{status_of}
+use Rattle.pz_run_output.specs.Output.{PrintsDriven, no_script, drives}
+use Rattle.pz_run_output.specs.Promises.{ChosenEnds, HasTrace, HasEnding, of_choice, of_trace, of_watches, of_script, HasScript, DrivenEnds, RefusesScript}
+use Rattle.pz_run_output.specs.Promises as promises
+use Rattle.pz_run_output.specs.devices.Keeping.{KeepsPromises}
+use Rattle.pz_run_output.specs.devices.TwoFiles.{IsOnlyOpen, AnswersFiles}
 use Rattle.pz_run.specs.devices.Driving.{PrintsScript}
-use Rattle.pz_run.proofs.OneEnd.{some_is}
-use Rattle.pz_run.proofs.Outcomes.{driven_can, Outcome, run_ended, script_refused, unjudged}
-use Rattle.pz_run.proofs.TwoFiles.{OnSecond, TwoFiles, keeps_two}
+use Rattle.pz_run_output.proofs.OneEnd.{some_is}
+use Rattle.pz_run_output.proofs.Outcomes.{driven_can, Outcome, run_ended, script_refused, unjudged}
+use Rattle.pz_run_output.proofs.TwoFiles.{OnSecond, TwoFiles, keeps_two}
 
 drive_words : (model name : List ℕ) (choice : Choice) (limits : RunLimits) (model' other : List ℕ) (choice' : Choice) (limits' : RunLimits)
     → Drive model name choice limits ≡ Drive model' other choice' limits' → (name ≡ other) × (choice ≡ choice') × (limits ≡ limits')

@@ -2,35 +2,35 @@
 use Rattle.std.proofs.Common.{◌≡◌, inr, ◌∙◌, ◌≤◌, ℕ, List, Result, Ok, Err, refl, sym, subst, ap, arith}
 use Rattle.pz_io.specs.Outside.{SinkState}
 use Rattle.pz_io.specs.declared.writing.Halt.{Halt}
-use Rattle.pz_syntax.specs.Classes.{ModelTree}
-use Rattle.pz_rules.specs.declared.limits.Limits.{Limits}
-use Rattle.pz_trace.specs.declared.forms.Form.TheVariants.{Three}
-use Rattle.pz_trace.specs.Forms.{limits_of}
-use Rattle.pz_env_script.specs.declared.entry.Entry.{Entry}
-use Rattle.pz_env_script.specs.Laws.{IsOneScript, IsNeverBoth}
-use Rattle.pz_env_tree.specs.pz_env_rules.Text.{drive_header}
-use Rattle.pz_env_tree.specs.ClosedTree.{closed_tree}
-use Rattle.pz_env_tree.specs.Refusals.{IsFirstRefused}
-use Rattle.pz_env_closing.specs.pz_env_sound.MayClose.{MayClose}
-use Rattle.pz_env_closing.specs.pz_env_mimics.Closing.{MayDrive}
-use Rattle.pz_env_closing.specs.Laws.{ClosedRunsAreDriven, OneDrivenEnding}
-use Rattle.pz_term_simulator.specs.Simulations.{Simulation}
-use Rattle.pz_run_playing.specs.declared.finale.Finale.{Finale}
-use Rattle.pz_run_playing.specs.RunText.{text_under}
-use Rattle.pz_run_playing.specs.Playing.{PlaysUnder}
-use Rattle.pz_run_lines.specs.Lines.{script_refused_line}
-use Rattle.pz_run.specs.declared.play.Play.{Play}
-use Rattle.pz_run.specs.declared.status.Status.{Status}
-use Rattle.pz_run.specs.declared.status.Status.TheVariants.{ScriptRefused}
-use Rattle.pz_run.specs.Plays.{setting_for, policy_for, DrivenRunOf}
-use Rattle.pz_run.specs.Scripts.{IsScriptFor, IsScriptRefused, malformed, unfit}
-use Rattle.pz_run.specs.Status.{status_of}
-use Rattle.pz_run.specs.Output.{PrintsDriven, no_script, drives}
-use Rattle.pz_run.specs.devices.Halting.{given_as}
+use Rattle.pz_bind.specs.pz_syntax.Classes.{ModelTree}
+use Rattle.pz_run_output.specs.pz_trace.pz_rules.declared.limits.Limits.{Limits}
+use Rattle.pz_run_output.specs.pz_trace.declared.forms.Form.TheVariants.{Three}
+use Rattle.pz_run_output.specs.pz_trace.Forms.{limits_of}
+use Rattle.pz_run_output.specs.pz_env_closing.pz_env_script.declared.entry.Entry.{Entry}
+use Rattle.pz_run_output.specs.pz_env_closing.pz_env_script.Laws.{IsOneScript, IsNeverBoth}
+use Rattle.pz_run_output.specs.pz_env_closing.pz_env_rules.Text.{drive_header}
+use Rattle.pz_run_output.specs.pz_env_closing.pz_env_tree.ClosedTree.{closed_tree}
+use Rattle.pz_run_output.specs.pz_env_closing.pz_env_tree.Refusals.{IsFirstRefused}
+use Rattle.pz_run_output.specs.pz_env_closing.pz_env_sound.MayClose.{MayClose}
+use Rattle.pz_run_output.specs.pz_env_closing.pz_env_mimics.Closing.{MayDrive}
+use Rattle.pz_run_output.specs.pz_env_closing.Laws.{ClosedRunsAreDriven, OneDrivenEnding}
+use Rattle.pz_sim.specs.pz_term_simulator.Simulations.{Simulation}
+use Rattle.pz_run_output.specs.pz_env_closing.pz_run_playing.declared.finale.Finale.{Finale}
+use Rattle.pz_run_output.specs.pz_env_closing.pz_run_playing.RunText.{text_under}
+use Rattle.pz_run_output.specs.pz_env_closing.pz_run_playing.Playing.{PlaysUnder}
+use Rattle.pz_run_output.specs.pz_run_lines.Lines.{script_refused_line}
+use Rattle.pz_run_output.specs.declared.play.Play.{Play}
+use Rattle.pz_run_output.specs.declared.status.Status.{Status}
+use Rattle.pz_run_output.specs.declared.status.Status.TheVariants.{ScriptRefused}
+use Rattle.pz_run_output.specs.Plays.{setting_for, policy_for, DrivenRunOf}
+use Rattle.pz_run_output.specs.Scripts.{IsScriptFor, IsScriptRefused, malformed, unfit}
+use Rattle.pz_run_output.specs.Status.{status_of}
+use Rattle.pz_run_output.specs.Output.{PrintsDriven, no_script, drives}
+use Rattle.pz_run_output.specs.devices.Halting.{given_as}
 use Rattle.pz_run.specs.devices.Driving.{IsSmallOpen, PrintsScript, PrintsClosedRun, plays}
-use Rattle.pz_run.specs.devices.Saying.{Said, Says, Answers}
+use Rattle.pz_run_output.specs.devices.Saying.{Said, Says, Answers}
 use Rattle.pz_run.proofs.Played.{ordinary}
-use Rattle.pz_run.proofs.Sayings.{said_whole, said_halted, answers_by}
+use Rattle.pz_run_output.proofs.Sayings.{said_whole, said_halted, answers_by}
 
 -- ---- of a closed model
 

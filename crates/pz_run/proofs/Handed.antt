@@ -5,49 +5,49 @@ use Rattle.pz_io.specs.declared.whole.ReadError.{ReadError}
 use Rattle.pz_io.specs.declared.whole.ReadError.TheVariants as unread
 use Rattle.pz_io.specs.declared.writing.Halt.{Halt}
 use Rattle.pz_io.specs.declared.writing.Halt.TheVariants as halt
-use Rattle.pz_syntax.specs.Classes.{ModelTree}
-use Rattle.pz_rules.specs.Runs.{Ending, ended, deadlocked, troubled, halted, refused}
-use Rattle.pz_trace.specs.declared.forms.Form.{Form}
-use Rattle.pz_trace.specs.TraceText.{run_ending}
-use Rattle.pz_trace.specs.Forms.{HasHeader}
-use Rattle.pz_lines.specs.Identifiers.{is_identifier}
+use Rattle.pz_bind.specs.pz_syntax.Classes.{ModelTree}
+use Rattle.pz_run_output.specs.pz_trace.pz_rules.Runs.{Ending, ended, deadlocked, troubled, halted, refused}
+use Rattle.pz_run_output.specs.pz_trace.declared.forms.Form.{Form}
+use Rattle.pz_run_output.specs.pz_trace.TraceText.{run_ending}
+use Rattle.pz_run_output.specs.pz_trace.Forms.{HasHeader}
+use Rattle.pz_run_output.specs.pz_lines.Identifiers.{is_identifier}
 use Rattle.pz_watch.specs.Files.{NamedFormula, AreWatches, IsRefusedAt}
 use Rattle.pz_watch.specs.declared.errors.ReadWatchesError.{ReadWatchesError}
 use Rattle.pz_watch.specs.declared.errors.ReadWatchesError.TheVariants as no_list
-use Rattle.pz_env_script.specs.declared.entry.Entry.{Entry}
-use Rattle.pz_env_tree.specs.ClosedTree.{closed_tree}
-use Rattle.pz_term_simulator.specs.Simulations.{Simulation}
-use Rattle.pz_run_playing.specs.declared.finale.Finale.{Finale}
-use Rattle.pz_run_playing.specs.declared.finale.Judged.{Judged}
-use Rattle.pz_run_playing.specs.Endings.{ending_of}
-use Rattle.pz_run_playing.specs.Playing.{PlaysUnder, Plays}
-use Rattle.pz_run_playing.specs.Watched.{PlaysWatched}
-use Rattle.pz_run_replaying.specs.declared.replayed.Replayed.{Replayed}
-use Rattle.pz_run_replaying.specs.declared.replayed.Replayed.TheVariants as replayed
-use Rattle.pz_run_replaying.specs.Replays.{IsReplayed}
-use Rattle.pz_run_reading.specs.declared.refusal.Refusal.{Refusal}
-use Rattle.pz_run_reading.specs.declared.refusal.Refusal.TheVariants as refusal
-use Rattle.pz_run_reading.specs.Answers.{OnRefused}
-use Rattle.pz_run_reading.specs.Openings.{IsOpeningRefusal}
-use Rattle.pz_run_reading.specs.declared.read_error.ReadModelError.{ReadModelError}
-use Rattle.pz_run_reading.specs.declared.read_error.ReadModelError.TheVariants.{NoMemory, Refused}
-use Rattle.pz_run.specs.declared.play.Play.{Play}
-use Rattle.pz_run.specs.declared.status.Status.{Status}
-use Rattle.pz_run.specs.declared.status.Status.TheVariants as status
-use Rattle.pz_run.specs.Files.{JobFile}
-use Rattle.pz_run.specs.Plays.{told_of, setting_for, setting_with, policy_for}
-use Rattle.pz_run.specs.Editions.{IsOfSecondEdition, OpensFor}
-use Rattle.pz_run.specs.Scripts.{IsScriptFor, IsScriptRefused}
-use Rattle.pz_run.specs.Status.{status_of, replay_status}
-use Rattle.pz_run.specs.Promises.{CameThrough}
+use Rattle.pz_run_output.specs.pz_env_closing.pz_env_script.declared.entry.Entry.{Entry}
+use Rattle.pz_run_output.specs.pz_env_closing.pz_env_tree.ClosedTree.{closed_tree}
+use Rattle.pz_sim.specs.pz_term_simulator.Simulations.{Simulation}
+use Rattle.pz_run_output.specs.pz_env_closing.pz_run_playing.declared.finale.Finale.{Finale}
+use Rattle.pz_run_output.specs.pz_env_closing.pz_run_playing.declared.finale.Judged.{Judged}
+use Rattle.pz_run_output.specs.pz_env_closing.pz_run_playing.Endings.{ending_of}
+use Rattle.pz_run_output.specs.pz_env_closing.pz_run_playing.Playing.{PlaysUnder, Plays}
+use Rattle.pz_run_output.specs.pz_env_closing.pz_run_playing.Watched.{PlaysWatched}
+use Rattle.pz_run_output.specs.pz_run_replaying.declared.replayed.Replayed.{Replayed}
+use Rattle.pz_run_output.specs.pz_run_replaying.declared.replayed.Replayed.TheVariants as replayed
+use Rattle.pz_run_output.specs.pz_run_replaying.Replays.{IsReplayed}
+use Rattle.pz_run_output.specs.pz_run_lines.pz_run_reading.declared.refusal.Refusal.{Refusal}
+use Rattle.pz_run_output.specs.pz_run_lines.pz_run_reading.declared.refusal.Refusal.TheVariants as refusal
+use Rattle.pz_run_output.specs.pz_run_lines.pz_run_reading.Answers.{OnRefused}
+use Rattle.pz_run_output.specs.pz_run_lines.pz_run_reading.Openings.{IsOpeningRefusal}
+use Rattle.pz_run_output.specs.pz_run_lines.pz_run_reading.declared.read_error.ReadModelError.{ReadModelError}
+use Rattle.pz_run_output.specs.pz_run_lines.pz_run_reading.declared.read_error.ReadModelError.TheVariants.{NoMemory, Refused}
+use Rattle.pz_run_output.specs.declared.play.Play.{Play}
+use Rattle.pz_run_output.specs.declared.status.Status.{Status}
+use Rattle.pz_run_output.specs.declared.status.Status.TheVariants as status
+use Rattle.pz_run_output.specs.Files.{JobFile}
+use Rattle.pz_run_output.specs.Plays.{told_of, setting_for, setting_with, policy_for}
+use Rattle.pz_run_output.specs.Editions.{IsOfSecondEdition, OpensFor}
+use Rattle.pz_run_output.specs.Scripts.{IsScriptFor, IsScriptRefused}
+use Rattle.pz_run_output.specs.Status.{status_of, replay_status}
+use Rattle.pz_run_output.specs.Promises.{CameThrough}
 use Rattle.pz_run.specs.HandedOut.{RunHandsOut, where_it_ended, WatchHandsOut, DriveHandsOut, TraceHandsOut, ModelHandsOut, FileHandsOut, NeverBegun, HandsOut}
 use Rattle.pz_run.specs.HandedOut as handed
-use Rattle.pz_run.specs.devices.Halting.{halted_as, given_as, judged_as, watched, replayed_as}
+use Rattle.pz_run_output.specs.devices.Halting.{halted_as, given_as, judged_as, watched, replayed_as}
 use Rattle.pz_run.specs.devices.Handing.{Hands, FileHands}
-use Rattle.pz_run.specs.devices.Reading.{SaysUnread}
-use Rattle.pz_run.specs.devices.Replaying.{WasRead}
-use Rattle.pz_run.specs.devices.Texts.{SaysRefusal}
-use Rattle.pz_run.proofs.Keeps.{raised_rose}
+use Rattle.pz_run_output.specs.devices.Reading.{SaysUnread}
+use Rattle.pz_run_output.specs.devices.Replaying.{WasRead}
+use Rattle.pz_run_output.specs.devices.Texts.{SaysRefusal}
+use Rattle.pz_run_output.proofs.Keeps.{raised_rose}
 
 -- ---- of a run
 

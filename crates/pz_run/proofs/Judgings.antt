@@ -4,31 +4,31 @@ use Rattle.std.specs.Prelude.{◌↔◌, IsTrue}
 use Rattle.std.proofs.lemmas.Bool.{cases_lt}
 use Rattle.pz_io.specs.Outside.{SinkState}
 use Rattle.pz_io.specs.declared.writing.Halt.{Halt}
-use Rattle.pz_syntax.specs.Classes.{ModelTree}
-use Rattle.pz_classes.specs.Soundness.{IsSound}
-use Rattle.pz_rules.specs.Runs.{Event, Ending, ended, deadlocked, troubled, halted, refused}
-use Rattle.pz_term_simulator.specs.Simulations.{Simulation}
-use Rattle.pz_lines.specs.Identifiers.{is_identifier}
+use Rattle.pz_bind.specs.pz_syntax.Classes.{ModelTree}
+use Rattle.pz_bind.specs.pz_classes_rules.Soundness.{IsSound}
+use Rattle.pz_run_output.specs.pz_trace.pz_rules.Runs.{Event, Ending, ended, deadlocked, troubled, halted, refused}
+use Rattle.pz_sim.specs.pz_term_simulator.Simulations.{Simulation}
+use Rattle.pz_run_output.specs.pz_lines.Identifiers.{is_identifier}
 use Rattle.pz_lines.proofs.IdentifierWords.{identifiers_are_words}
 use Rattle.pz_watch.specs.Points.{Point}
 use Rattle.pz_watch.specs.Files.{NamedFormula, AreWatches, IsRefusedAt}
 use Rattle.pz_watch.specs.Breaking.{broken_at, AreBroken}
 use Rattle.pz_watch.specs.Laws.{IsOneList, IsNeverBoth}
-use Rattle.pz_watch_points.specs.EventPoints.{points_of}
-use Rattle.pz_run_playing.specs.declared.finale.Judged.{Judged}
-use Rattle.pz_run_playing.specs.Laws.{HasOneRun}
-use Rattle.pz_run_playing.specs.Watched.{watched_text, PlaysWatched}
-use Rattle.pz_run_lines.specs.Lines.{watch_refused_line}
-use Rattle.pz_run.specs.declared.play.Play.{Play}
-use Rattle.pz_run.specs.declared.status.Status.{Status}
-use Rattle.pz_run.specs.declared.status.Status.TheVariants.{Done, WriteFault, WatchBroken, WatchRefused}
-use Rattle.pz_run.specs.Plays.{setting_for, policy_for, RunOf}
-use Rattle.pz_run.specs.Status.{status_of, IsJudgedAs, broken, kept}
-use Rattle.pz_run.specs.Output.{PrintsJudged, no_watches, judges}
-use Rattle.pz_run.specs.devices.Halting.{watched, judged_as}
+use Rattle.pz_run_output.specs.pz_env_closing.pz_watch_points.EventPoints.{points_of}
+use Rattle.pz_run_output.specs.pz_env_closing.pz_run_playing.declared.finale.Judged.{Judged}
+use Rattle.pz_run_output.specs.pz_env_closing.pz_run_playing.Laws.{HasOneRun}
+use Rattle.pz_run_output.specs.pz_env_closing.pz_run_playing.Watched.{watched_text, PlaysWatched}
+use Rattle.pz_run_output.specs.pz_run_lines.Lines.{watch_refused_line}
+use Rattle.pz_run_output.specs.declared.play.Play.{Play}
+use Rattle.pz_run_output.specs.declared.status.Status.{Status}
+use Rattle.pz_run_output.specs.declared.status.Status.TheVariants.{Done, WriteFault, WatchBroken, WatchRefused}
+use Rattle.pz_run_output.specs.Plays.{setting_for, policy_for, RunOf}
+use Rattle.pz_run_output.specs.Status.{status_of, IsJudgedAs, broken, kept}
+use Rattle.pz_run_output.specs.Output.{PrintsJudged, no_watches, judges}
+use Rattle.pz_run_output.specs.devices.Halting.{watched, judged_as}
 use Rattle.pz_run.specs.devices.Judging.{PrintsWatches}
-use Rattle.pz_run.specs.devices.Saying.{Said, Says, Answers}
-use Rattle.pz_run.proofs.Sayings.{said_whole, said_halted}
+use Rattle.pz_run_output.specs.devices.Saying.{Said, Says, Answers}
+use Rattle.pz_run_output.proofs.Sayings.{said_whole, said_halted}
 
 -- ---- whether a watch is broken can be told
 

@@ -2,20 +2,20 @@
 use Rattle.std.proofs.Common.{◌≡◌, ◌≢◌, ◌∙◌, Result, Ok, Err, sym, subst, ap}
 use Rattle.pz_io.specs.Outside.{SinkState}
 use Rattle.pz_io.specs.declared.writing.Halt.{Halt}
-use Rattle.pz_syntax.specs.Classes.{ModelTree}
-use Rattle.pz_rules.specs.Runs.{Ending, ended, deadlocked, troubled, halted, refused}
-use Rattle.pz_term_simulator.specs.Simulations.{Simulation}
-use Rattle.pz_run_playing.specs.declared.finale.Finale.{Finale}
-use Rattle.pz_run_playing.specs.Playing.{Plays}
-use Rattle.pz_run.specs.declared.play.Play.{Play}
-use Rattle.pz_run.specs.declared.status.Status.{Status}
-use Rattle.pz_run.specs.declared.status.Status.TheVariants.{WriteFault}
-use Rattle.pz_run.specs.Plays.{told_of, setting_for, policy_for}
-use Rattle.pz_run.specs.Status.{status_of}
-use Rattle.pz_run.specs.Output.{PrintsRun, plays}
-use Rattle.pz_run.specs.devices.Halting.{given_as}
-use Rattle.pz_run.specs.devices.Saying.{Said, Says}
-use Rattle.pz_run.proofs.Sayings.{said_whole, said_halted}
+use Rattle.pz_bind.specs.pz_syntax.Classes.{ModelTree}
+use Rattle.pz_run_output.specs.pz_trace.pz_rules.Runs.{Ending, ended, deadlocked, troubled, halted, refused}
+use Rattle.pz_sim.specs.pz_term_simulator.Simulations.{Simulation}
+use Rattle.pz_run_output.specs.pz_env_closing.pz_run_playing.declared.finale.Finale.{Finale}
+use Rattle.pz_run_output.specs.pz_env_closing.pz_run_playing.Playing.{Plays}
+use Rattle.pz_run_output.specs.declared.play.Play.{Play}
+use Rattle.pz_run_output.specs.declared.status.Status.{Status}
+use Rattle.pz_run_output.specs.declared.status.Status.TheVariants.{WriteFault}
+use Rattle.pz_run_output.specs.Plays.{told_of, setting_for, policy_for}
+use Rattle.pz_run_output.specs.Status.{status_of}
+use Rattle.pz_run_output.specs.Output.{PrintsRun, plays}
+use Rattle.pz_run_output.specs.devices.Halting.{given_as}
+use Rattle.pz_run_output.specs.devices.Saying.{Said, Says}
+use Rattle.pz_run_output.proofs.Sayings.{said_whole, said_halted}
 
 pub ordinary : (ending : Ending) → status_of ending ≢ WriteFault
 ordinary ended is = cc

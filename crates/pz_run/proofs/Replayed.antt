@@ -3,59 +3,59 @@ use Rattle.std.proofs.Common.{◌≡◌, ◌≢◌, ◌⊎◌, inl, inr, ⊎_eli
 use Rattle.std.specs.Prelude.{Contains, MatchOption}
 use Rattle.pz_io.specs.Outside.{Entries, FilesState, SinkState, lookup, raised, Rose, LacksName, FilesFailedLast, Exceeds}
 use Rattle.pz_io.specs.declared.writing.Halt.{Halt}
-use Rattle.pz_syntax.specs.Classes.{ModelTree}
-use Rattle.pz_check_violations.specs.declared.violation.Violation.{Violation}
-use Rattle.pz_classes_openings.specs.OpeningRules as rules
-use Rattle.pz_classes_openings.specs.OpeningRules.{IsOpeningViolation, in_rounds, in_sizes}
-use Rattle.pz_rules.specs.Runs.{Ending}
-use Rattle.pz_trace.specs.declared.forms.Form.{Form}
-use Rattle.pz_trace.specs.declared.forms.Form.TheVariants.{One, Two, Three}
-use Rattle.pz_trace.specs.Lines.{header}
-use Rattle.pz_trace.specs.Forms.{HasHeader}
-use Rattle.pz_trace.specs.Laws.{OneFormIsTold}
-use Rattle.pz_trace.specs.TraceText.{run_ending, IsTrace}
-use Rattle.pz_trace.specs.declared.ending.Ending as trace
-use Rattle.pz_trace.specs.declared.ending.Ending.TheVariants as ending
-use Rattle.pz_term_simulator.specs.Simulations.{Simulation}
-use Rattle.pz_run_replaying.specs.declared.replayed.Replayed.{Replayed}
-use Rattle.pz_run_replaying.specs.declared.replayed.Replayed.TheVariants as replayed
-use Rattle.pz_run_replaying.specs.Replays.{refusal_text, Replays, accepts, refuses, TellsLines, IsReplayed}
+use Rattle.pz_bind.specs.pz_syntax.Classes.{ModelTree}
+use Rattle.pz_bind.specs.pz_check_violations.declared.violation.Violation.{Violation}
+use Rattle.pz_run_output.specs.pz_classes_openings.OpeningRules as rules
+use Rattle.pz_run_output.specs.pz_classes_openings.OpeningRules.{IsOpeningViolation, in_rounds, in_sizes}
+use Rattle.pz_run_output.specs.pz_trace.pz_rules.Runs.{Ending}
+use Rattle.pz_run_output.specs.pz_trace.declared.forms.Form.{Form}
+use Rattle.pz_run_output.specs.pz_trace.declared.forms.Form.TheVariants.{One, Two, Three}
+use Rattle.pz_run_output.specs.pz_trace.Lines.{header}
+use Rattle.pz_run_output.specs.pz_trace.Forms.{HasHeader}
+use Rattle.pz_run_output.specs.pz_trace.Laws.{OneFormIsTold}
+use Rattle.pz_run_output.specs.pz_trace.TraceText.{run_ending, IsTrace}
+use Rattle.pz_run_output.specs.pz_trace.declared.ending.Ending as trace
+use Rattle.pz_run_output.specs.pz_trace.declared.ending.Ending.TheVariants as ending
+use Rattle.pz_sim.specs.pz_term_simulator.Simulations.{Simulation}
+use Rattle.pz_run_output.specs.pz_run_replaying.declared.replayed.Replayed.{Replayed}
+use Rattle.pz_run_output.specs.pz_run_replaying.declared.replayed.Replayed.TheVariants as replayed
+use Rattle.pz_run_output.specs.pz_run_replaying.Replays.{refusal_text, Replays, accepts, refuses, TellsLines, IsReplayed}
 use Rattle.pz_words.specs.declared.jobs.Job.{Job}
 use Rattle.pz_words.specs.declared.jobs.Job.TheVariants.{Replay}
-use Rattle.pz_run_reading.specs.Models.{IsModelOf}
-use Rattle.pz_run_reading.specs.Refusals.{IsRefused}
-use Rattle.pz_run_reading.specs.Answers.{OnRefused}
-use Rattle.pz_run_reading.specs.declared.read_error.ReadModelError.{ReadModelError}
-use Rattle.pz_run_reading.specs.declared.read_error.ReadModelError.TheVariants.{NoMemory, Refused}
-use Rattle.pz_run_reading.specs.declared.refusal.Refusal.{Refusal}
-use Rattle.pz_run_reading.specs.declared.refusal.Refusal.TheVariants as refusal
-use Rattle.pz_run_reading.specs.Openings.{IsOpeningRefusal}
-use Rattle.pz_run_lines.specs.Lines.{read_fault_line, too_long_line, model_refused_line}
-use Rattle.pz_run.specs.Limits.{model_limit, trace_limit}
-use Rattle.pz_run.specs.declared.status.Status.{Status}
-use Rattle.pz_run.specs.declared.status.Status.TheVariants.{ModelRefused, TraceRefused, TooLong, ReadFault, WriteFault}
-use Rattle.pz_run.specs.Files.{JobFile, model_file, trace_file, files_of}
-use Rattle.pz_run.specs.Plays.{play_of, setting_with}
-use Rattle.pz_run.specs.Editions.{HasNoHeader, IsOfSecondEdition, OpensFor}
-use Rattle.pz_run.specs.Status.{status_of, replay_status}
-use Rattle.pz_run.specs.Output.{PrintsReplay, closed, no_header, replays, PrintsFile, lacks, too_long, reads, PrintsOnTrace, PrintsTraceFile, PrintsJob, Prints, does}
-use Rattle.pz_run.specs.Output as output
-use Rattle.pz_run.specs.Promises.{Opens, OpensFiles, OpensLast, IsTraceIn, IsRefusedOnTrace, at_once, on_trace, IsRefusedFor, IsNoModel, HasModelText, IsTextFor, of_file, ChosenEnds, HasTrace, TellsRun, ToldEnds, HasEnding, of_choice, of_trace, of_watches, of_script, RunEnds, TellsNoRun, IsNoTrace, IsBrokenAt, IsNoWatches, IsNoScript}
-use Rattle.pz_run.specs.Promises as promises
-use Rattle.pz_run.specs.devices.Halting.{replayed_as}
-use Rattle.pz_run.specs.devices.Keeping.{KeepsPromises}
-use Rattle.pz_run.specs.devices.Reading.{FileOutcome, wanting, fault, long, whole, ReadsFile}
-use Rattle.pz_run.specs.devices.Replaying.{OneEnding, tells_first, HasOneForm, PrintsRefusal, refused, PrintsTrace, IsOnlyModel, WasRead, ReplaysText, goes_on, ReplaysFiles, no_model, reads_on}
-use Rattle.pz_run.specs.devices.Replaying as replaying
-use Rattle.pz_run.specs.devices.Saying.{Said, NothingWritten, Says, Answers}
-use Rattle.pz_run.specs.devices.Texts.{SaysRefusal}
-use Rattle.pz_run.proofs.Sayings.{said_whole, said_halted, answers_by}
-use Rattle.pz_run.proofs.OneEnd.{some_is}
-use Rattle.pz_run.proofs.Outcomes.{told_can, Outcome, run_ended, no_trace, EndsText, ends_text, text_in, unjudged, undriven, OfText, run_in, none_in, refused_in, broken_in, no_list_in, no_script_in}
-use Rattle.pz_run.proofs.Outcomes as outcomes
-use Rattle.pz_run.proofs.Keeps.{raised_rose, IsFaultLine, Wants, keeps, keeps_nothing}
-use Rattle.pz_run.proofs.OneFiles.{OneFile, keeps_file}
-use Rattle.pz_run.proofs.OfJobs.{file_lacks, file_long, file_read}
+use Rattle.pz_run_output.specs.pz_run_lines.pz_run_reading.Models.{IsModelOf}
+use Rattle.pz_run_output.specs.pz_run_lines.pz_run_reading.Refusals.{IsRefused}
+use Rattle.pz_run_output.specs.pz_run_lines.pz_run_reading.Answers.{OnRefused}
+use Rattle.pz_run_output.specs.pz_run_lines.pz_run_reading.declared.read_error.ReadModelError.{ReadModelError}
+use Rattle.pz_run_output.specs.pz_run_lines.pz_run_reading.declared.read_error.ReadModelError.TheVariants.{NoMemory, Refused}
+use Rattle.pz_run_output.specs.pz_run_lines.pz_run_reading.declared.refusal.Refusal.{Refusal}
+use Rattle.pz_run_output.specs.pz_run_lines.pz_run_reading.declared.refusal.Refusal.TheVariants as refusal
+use Rattle.pz_run_output.specs.pz_run_lines.pz_run_reading.Openings.{IsOpeningRefusal}
+use Rattle.pz_run_output.specs.pz_run_lines.Lines.{read_fault_line, too_long_line, model_refused_line}
+use Rattle.pz_run_output.specs.Limits.{model_limit, trace_limit}
+use Rattle.pz_run_output.specs.declared.status.Status.{Status}
+use Rattle.pz_run_output.specs.declared.status.Status.TheVariants.{ModelRefused, TraceRefused, TooLong, ReadFault, WriteFault}
+use Rattle.pz_run_output.specs.Files.{JobFile, model_file, trace_file, files_of}
+use Rattle.pz_run_output.specs.Plays.{play_of, setting_with}
+use Rattle.pz_run_output.specs.Editions.{HasNoHeader, IsOfSecondEdition, OpensFor}
+use Rattle.pz_run_output.specs.Status.{status_of, replay_status}
+use Rattle.pz_run_output.specs.Output.{PrintsReplay, closed, no_header, replays, PrintsFile, lacks, too_long, reads, PrintsOnTrace, PrintsTraceFile, PrintsJob, Prints, does}
+use Rattle.pz_run_output.specs.Output as output
+use Rattle.pz_run_output.specs.Promises.{Opens, OpensFiles, OpensLast, IsTraceIn, IsRefusedOnTrace, at_once, on_trace, IsRefusedFor, IsNoModel, HasModelText, IsTextFor, of_file, ChosenEnds, HasTrace, TellsRun, ToldEnds, HasEnding, of_choice, of_trace, of_watches, of_script, RunEnds, TellsNoRun, IsNoTrace, IsBrokenAt, IsNoWatches, IsNoScript}
+use Rattle.pz_run_output.specs.Promises as promises
+use Rattle.pz_run_output.specs.devices.Halting.{replayed_as}
+use Rattle.pz_run_output.specs.devices.Keeping.{KeepsPromises}
+use Rattle.pz_run_output.specs.devices.Reading.{FileOutcome, wanting, fault, long, whole, ReadsFile}
+use Rattle.pz_run_output.specs.devices.Replaying.{OneEnding, tells_first, HasOneForm, PrintsRefusal, refused, PrintsTrace, IsOnlyModel, WasRead, ReplaysText, goes_on, ReplaysFiles, no_model, reads_on}
+use Rattle.pz_run_output.specs.devices.Replaying as replaying
+use Rattle.pz_run_output.specs.devices.Saying.{Said, NothingWritten, Says, Answers}
+use Rattle.pz_run_output.specs.devices.Texts.{SaysRefusal}
+use Rattle.pz_run_output.proofs.Sayings.{said_whole, said_halted, answers_by}
+use Rattle.pz_run_output.proofs.OneEnd.{some_is}
+use Rattle.pz_run_output.proofs.Outcomes.{told_can, Outcome, run_ended, no_trace, EndsText, ends_text, text_in, unjudged, undriven, OfText, run_in, none_in, refused_in, broken_in, no_list_in, no_script_in}
+use Rattle.pz_run_output.proofs.Outcomes as outcomes
+use Rattle.pz_run_output.proofs.Keeps.{raised_rose, IsFaultLine, Wants, keeps, keeps_nothing}
+use Rattle.pz_run_output.proofs.OneFiles.{OneFile, keeps_file}
+use Rattle.pz_run_output.proofs.OfJobs.{file_lacks, file_long, file_read}
 
 -- ---- what was said of a trace
 

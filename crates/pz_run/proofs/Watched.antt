@@ -1,33 +1,33 @@
 -- The promises of a run that watches judge.
 use Rattle.std.proofs.Common.{◌≡◌, ◌∙◌, ◌≤◌, ℕ, List, true, Some, length, refl, sym, subst, ap}
 use Rattle.pz_io.specs.Outside.{Entries, FilesState, SinkState, lookup}
-use Rattle.pz_syntax.specs.Classes.{ModelTree}
-use Rattle.pz_rules.specs.Runs.{Ending}
+use Rattle.pz_bind.specs.pz_syntax.Classes.{ModelTree}
+use Rattle.pz_run_output.specs.pz_trace.pz_rules.Runs.{Ending}
 use Rattle.pz_words.specs.declared.jobs.Choice.{Choice}
 use Rattle.pz_words.specs.declared.jobs.RunLimits.{RunLimits}
 use Rattle.pz_words.specs.declared.jobs.Job.{Job}
 use Rattle.pz_words.specs.declared.jobs.Job.TheVariants.{Replay, Watch}
-use Rattle.pz_lines.specs.Identifiers.{is_identifier}
+use Rattle.pz_run_output.specs.pz_lines.Identifiers.{is_identifier}
 use Rattle.pz_watch.specs.Files.{NamedFormula, AreWatches, IsRefusedAt}
 use Rattle.pz_watch.specs.Breaking.{AreBroken}
-use Rattle.pz_watch_points.specs.EventPoints.{points_of}
-use Rattle.pz_run_reading.specs.Openings.{IsOpenModelOf}
-use Rattle.pz_run.specs.Limits.{watch_limit}
-use Rattle.pz_run.specs.declared.play.Play.{Play}
-use Rattle.pz_run.specs.declared.status.Status.{Status}
-use Rattle.pz_run.specs.declared.status.Status.TheVariants.{Done, WatchBroken, WatchRefused}
-use Rattle.pz_run.specs.Files.{watch_file}
-use Rattle.pz_run.specs.Plays.{play_of, judged_play, RunOf}
-use Rattle.pz_run.specs.Status.{status_of, IsJudgedAs, broken, kept}
-use Rattle.pz_run.specs.Output.{PrintsJudged, no_watches, judges}
-use Rattle.pz_run.specs.Promises.{ChosenEnds, HasTrace, HasEnding, of_choice, of_trace, of_watches, of_script, HasWatches, IsJudged, JudgedEnds, BreaksWatch, RefusesWatches}
-use Rattle.pz_run.specs.Promises as promises
-use Rattle.pz_run.specs.devices.Keeping.{KeepsPromises}
-use Rattle.pz_run.specs.devices.TwoFiles.{IsOnlyOpen, AnswersFiles}
+use Rattle.pz_run_output.specs.pz_env_closing.pz_watch_points.EventPoints.{points_of}
+use Rattle.pz_run_output.specs.pz_run_lines.pz_run_reading.Openings.{IsOpenModelOf}
+use Rattle.pz_run_output.specs.Limits.{watch_limit}
+use Rattle.pz_run_output.specs.declared.play.Play.{Play}
+use Rattle.pz_run_output.specs.declared.status.Status.{Status}
+use Rattle.pz_run_output.specs.declared.status.Status.TheVariants.{Done, WatchBroken, WatchRefused}
+use Rattle.pz_run_output.specs.Files.{watch_file}
+use Rattle.pz_run_output.specs.Plays.{play_of, judged_play, RunOf}
+use Rattle.pz_run_output.specs.Status.{status_of, IsJudgedAs, broken, kept}
+use Rattle.pz_run_output.specs.Output.{PrintsJudged, no_watches, judges}
+use Rattle.pz_run_output.specs.Promises.{ChosenEnds, HasTrace, HasEnding, of_choice, of_trace, of_watches, of_script, HasWatches, IsJudged, JudgedEnds, BreaksWatch, RefusesWatches}
+use Rattle.pz_run_output.specs.Promises as promises
+use Rattle.pz_run_output.specs.devices.Keeping.{KeepsPromises}
+use Rattle.pz_run_output.specs.devices.TwoFiles.{IsOnlyOpen, AnswersFiles}
 use Rattle.pz_run.specs.devices.Judging.{PrintsWatches}
-use Rattle.pz_run.proofs.OneEnd.{some_is}
-use Rattle.pz_run.proofs.Outcomes.{judged_can, Outcome, run_ended, watch_broken, watch_refused, undriven}
-use Rattle.pz_run.proofs.TwoFiles.{OnSecond, TwoFiles, keeps_two}
+use Rattle.pz_run_output.proofs.OneEnd.{some_is}
+use Rattle.pz_run_output.proofs.Outcomes.{judged_can, Outcome, run_ended, watch_broken, watch_refused, undriven}
+use Rattle.pz_run_output.proofs.TwoFiles.{OnSecond, TwoFiles, keeps_two}
 
 watch_words : (model name : List ℕ) (choice : Choice) (limits : RunLimits) (model' other : List ℕ) (choice' : Choice) (limits' : RunLimits)
     → Watch model name choice limits ≡ Watch model' other choice' limits' → (name ≡ other) × (choice ≡ choice') × (limits ≡ limits')

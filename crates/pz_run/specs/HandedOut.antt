@@ -3,33 +3,33 @@
 -- trace was taken.
 use Rattle.std.specs.Prelude.{◌≡◌, ◌<◌, ◌≤◌, ℕ, List, length, Option, Some, None, option_map}
 use Rattle.pz_io.specs.Outside.{Entries, lookup}
-use Rattle.pz_syntax.specs.Classes.{ModelTree}
-use Rattle.pz_check_violations.specs.declared.violation.Violation.{Violation}
-use Rattle.pz_classes_openings.specs.OpeningRules.{IsOpeningViolation}
-use Rattle.pz_trace.specs.declared.forms.Form.{Form}
-use Rattle.pz_trace.specs.Forms.{HasHeader}
+use Rattle.pz_bind.specs.pz_syntax.Classes.{ModelTree}
+use Rattle.pz_bind.specs.pz_check_violations.declared.violation.Violation.{Violation}
+use Rattle.pz_run_output.specs.pz_classes_openings.OpeningRules.{IsOpeningViolation}
+use Rattle.pz_run_output.specs.pz_trace.declared.forms.Form.{Form}
+use Rattle.pz_run_output.specs.pz_trace.Forms.{HasHeader}
 use Rattle.pz_words.specs.declared.jobs.Job.{Job}
 use Rattle.pz_words.specs.declared.jobs.Job.TheVariants.{Run, Menu, Replay, Check, Make, Ring, Format, Watch, Drive}
 use Rattle.pz_gen.specs.Ring.{model as ring_text}
-use Rattle.pz_run_reading.specs.Models.{IsModelOf}
-use Rattle.pz_run_reading.specs.Openings.{IsOpenModelOf}
-use Rattle.pz_lines.specs.Identifiers.{is_identifier}
+use Rattle.pz_run_output.specs.pz_run_lines.pz_run_reading.Models.{IsModelOf}
+use Rattle.pz_run_output.specs.pz_run_lines.pz_run_reading.Openings.{IsOpenModelOf}
+use Rattle.pz_run_output.specs.pz_lines.Identifiers.{is_identifier}
 use Rattle.pz_watch.specs.Files.{NamedFormula, AreWatches, IsRefusedAt}
-use Rattle.pz_env_script.specs.declared.entry.Entry.{Entry}
-use Rattle.pz_env_tree.specs.ClosedTree.{closed_tree}
-use Rattle.pz_term_simulator.specs.Simulations.{Simulation, stands}
+use Rattle.pz_run_output.specs.pz_env_closing.pz_env_script.declared.entry.Entry.{Entry}
+use Rattle.pz_run_output.specs.pz_env_closing.pz_env_tree.ClosedTree.{closed_tree}
+use Rattle.pz_sim.specs.pz_term_simulator.Simulations.{Simulation, stands}
 use Rattle.pz_sim.specs.Sims.{simulation_of}
-use Rattle.pz_run_replaying.specs.declared.replayed.Replayed.{Replayed}
-use Rattle.pz_run_replaying.specs.Replays.{Replays}
-use Rattle.pz_run.specs.declared.status.Status.{Status}
-use Rattle.pz_run.specs.declared.status.Status.TheVariants as status
+use Rattle.pz_run_output.specs.pz_run_replaying.declared.replayed.Replayed.{Replayed}
+use Rattle.pz_run_output.specs.pz_run_replaying.Replays.{Replays}
+use Rattle.pz_run_output.specs.declared.status.Status.{Status}
+use Rattle.pz_run_output.specs.declared.status.Status.TheVariants as status
 use Rattle.pz_run.specs.declared.finish.Finish.{Finish}
-use Rattle.pz_run.specs.declared.play.Play.{Play}
-use Rattle.pz_run.specs.declared.play.Telling.TheVariants as telling
-use Rattle.pz_run.specs.Files.{JobFile, model_file, trace_file, watch_file, script_file}
-use Rattle.pz_run.specs.Plays.{play, judged_play, driven_play, telling_when, setting_with, setting_for, RunOf}
-use Rattle.pz_run.specs.Scripts.{IsScriptFor, IsScriptRefused}
-use Rattle.pz_run.specs.Editions.{HasNoHeader, IsOfSecondEdition, OpensFor}
+use Rattle.pz_run_output.specs.declared.play.Play.{Play}
+use Rattle.pz_run_output.specs.declared.play.Telling.TheVariants as telling
+use Rattle.pz_run_output.specs.Files.{JobFile, model_file, trace_file, watch_file, script_file}
+use Rattle.pz_run_output.specs.Plays.{play, judged_play, driven_play, telling_when, setting_with, setting_for, RunOf}
+use Rattle.pz_run_output.specs.Scripts.{IsScriptFor, IsScriptRefused}
+use Rattle.pz_run_output.specs.Editions.{HasNoHeader, IsOfSecondEdition, OpensFor}
 
 -- of a run that is chosen: where it ended, after its last action or in the trouble of that
 pub data RunHandsOut (p : Play) (m : ModelTree) : Option Simulation → Type 0 where

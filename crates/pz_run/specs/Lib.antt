@@ -1,12 +1,2 @@
-pub mod Limits
-pub mod Words
-pub mod Files
-pub mod Status
-pub mod Plays
-pub mod Scripts
-pub mod Editions
-pub mod Output
-pub mod Promises
 pub mod HandedOut
-pub mod Formats
 pub mod devices

@@ -1,12 +1,3 @@
-pub mod Words
-pub mod Formatting
-pub mod Halting
-pub mod Saying
-pub mod Texts
-pub mod Reading
-pub mod Replaying
-pub mod TwoFiles
 pub mod Judging
 pub mod Driving
 pub mod Handing
-pub mod Keeping

@@ -1,19 +1,17 @@
 // Jobs.
 ghost use Rattle.std.specs.Prelude.{◌≡◌, true, Some, None};
-ghost use Rattle.pz_run.specs.Promises.{CameThrough};
+ghost use Rattle.pz_run_output.specs.Promises.{CameThrough};
 ghost use Rattle.pz_run.specs.HandedOut.{JobHandsOut, left_in, NeverBegun};
-ghost use Rattle.pz_run.specs.devices.Words.{HasRingSize, HasFewActions, HasUnits};
-ghost use Rattle.pz_run.specs.devices.Keeping.{KeepsPromises};
+ghost use Rattle.pz_run_output.specs.devices.Words.{HasRingSize, HasFewActions, HasUnits};
+ghost use Rattle.pz_run_output.specs.devices.Keeping.{KeepsPromises};
 
 use crate::driving::drive_file;
-use crate::files::{check_file, run_file};
 use crate::finish::Finish;
-use crate::formatting::format_file;
-use crate::play::{Play, Telling};
 use crate::replaying::replay_file;
-use crate::rings::{make_ring, run_ring};
+use crate::running::{run_file, run_ring};
 use crate::watching::watch_file;
 use pz_io::{Files, Sink};
+use pz_run_output::{Play, Telling, check_file, format_file, make_ring};
 use pz_words::Job;
 use std::alloc::Global;
 

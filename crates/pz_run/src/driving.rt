@@ -1,49 +1,42 @@
 // Runs that a script drives.
 ghost use Rattle.std.specs.Prelude.{◌≡◌, ◌-◌, ◌≤◌, ◌<◌, ◌^◌, ℕ, true, List, length, Some, None};
-ghost use Rattle.pz_syntax.specs.Classes.{ModelTree};
-ghost use Rattle.pz_classes.specs.CheckedView.{checked_model};
-ghost use Rattle.pz_classes_openings.specs.OpeningRules.{Opens};
-ghost use Rattle.pz_rules.specs.declared.limits.Edition.TheVariants.{Two};
-ghost use Rattle.pz_rules.specs.Settings.{Setting};
-ghost use Rattle.pz_rules.specs.Clocks.{most_actions};
-ghost use Rattle.pz_env_script.specs.declared.errors.ReadScriptError.TheVariants.{Malformed};
-ghost use Rattle.pz_env_script.specs.Scripts.{IsScript};
-ghost use Rattle.pz_env_tree.specs.pz_env_rules.Text.{drive_header};
-ghost use Rattle.pz_env_closing.specs.pz_env.declared.error.CloseError.TheVariants.{Refused};
-ghost use Rattle.pz_term_simulator.specs.Simulations.{Starts, model_in, limits_in};
+ghost use Rattle.pz_bind.specs.pz_syntax.Classes.{ModelTree};
+ghost use Rattle.pz_bind.specs.pz_classes.CheckedView.{checked_model};
+ghost use Rattle.pz_run_output.specs.pz_classes_openings.OpeningRules.{Opens};
+ghost use Rattle.pz_run_output.specs.pz_trace.pz_rules.declared.limits.Edition.TheVariants.{Two};
+ghost use Rattle.pz_run_output.specs.pz_trace.pz_rules.Settings.{Setting};
+ghost use Rattle.pz_run_output.specs.pz_trace.pz_rules.Clocks.{most_actions};
+ghost use Rattle.pz_run_output.specs.pz_env_closing.pz_env_script.declared.errors.ReadScriptError.TheVariants.{Malformed};
+ghost use Rattle.pz_run_output.specs.pz_env_closing.pz_env_script.Scripts.{IsScript};
+ghost use Rattle.pz_run_output.specs.pz_env_closing.pz_env_rules.Text.{drive_header};
+ghost use Rattle.pz_run_output.specs.pz_env_closing.pz_env.declared.error.CloseError.TheVariants.{Refused};
+ghost use Rattle.pz_sim.specs.pz_term_simulator.Simulations.{Starts, model_in, limits_in};
 ghost use Rattle.pz_sim.specs.Sims.{simulation_of};
-ghost use Rattle.pz_run_playing.specs.Playing.{PlaysUnder};
-ghost use Rattle.pz_run.specs.Limits.{model_limit};
-ghost use Rattle.pz_run.specs.Files.{model_file as file_of_model, script_file as file_of};
-ghost use Rattle.pz_run.specs.Plays.{setting_for, policy_for};
-ghost use Rattle.pz_run.specs.Scripts.{IsScriptRefused};
-ghost use Rattle.pz_run.specs.Output.{PrintsDriven};
-ghost use Rattle.pz_run.specs.Promises.{CameThrough};
+ghost use Rattle.pz_run_output.specs.pz_env_closing.pz_run_playing.Playing.{PlaysUnder};
+ghost use Rattle.pz_run_output.specs.Limits.{model_limit};
+ghost use Rattle.pz_run_output.specs.Files.{model_file as file_of_model, script_file as file_of};
+ghost use Rattle.pz_run_output.specs.Plays.{setting_for, policy_for};
+ghost use Rattle.pz_run_output.specs.Scripts.{IsScriptRefused};
+ghost use Rattle.pz_run_output.specs.Output.{PrintsDriven};
+ghost use Rattle.pz_run_output.specs.Promises.{CameThrough};
 ghost use Rattle.pz_run.specs.HandedOut.{RunHandsOut, DriveHandsOut, OpenModelHandsOut, ScriptFileHandsOut, left_in, NeverBegun};
-ghost use Rattle.pz_run.specs.devices.Saying.{Says, Answers};
+ghost use Rattle.pz_run_output.specs.devices.Saying.{Says, Answers};
 ghost use Rattle.pz_run.specs.devices.Handing.{Hands, FileHands};
-ghost use Rattle.pz_run.specs.devices.Reading.{ReadsFile};
-ghost use Rattle.pz_run.specs.devices.TwoFiles.{AnswersText, AnswersFiles};
+ghost use Rattle.pz_run_output.specs.devices.Reading.{ReadsFile};
+ghost use Rattle.pz_run_output.specs.devices.TwoFiles.{AnswersText, AnswersFiles};
 ghost use Rattle.pz_run.specs.devices.Driving.{IsSmallOpen, PrintsScript, PrintsClosedRun};
 
-use crate::Status;
-use crate::files::say_unread;
 use crate::finish::Finish;
-use crate::limits::{MODEL_LIMIT, SCRIPT_LIMIT};
-use crate::play::Play;
-use crate::printing::say_made;
 use crate::starting::start;
-use crate::texts::say_refused;
-use pz_classes::Checked;
-use pz_env_closing::{CloseError, close_checked, drive_header};
-use pz_env_script::{ReadScriptError, Script};
+use pz_bind::pz_classes::Checked;
 use pz_io::{Files, Halt, Sink, read_all};
-use pz_run_lines::script_refused_line;
-use pz_run_playing::{Finale, play_under};
-use pz_run_reading::read_open_model;
+use pz_run_output::{
+    CloseError, Finale, Form, MODEL_LIMIT, Play, ReadScriptError, SCRIPT_LIMIT, Script, Status,
+    close_checked, drive_header, laws, play_under, read_open_model, say_made, say_refused,
+    say_unread, script_refused_line,
+};
 use pz_sim::Sim;
-use pz_term_simulator::Steps;
-use pz_trace::Form;
+use pz_sim::pz_term_simulator::Steps;
 use std::alloc::Global;
 use std::marker::Brand;
 use std::mem::drop;
@@ -97,9 +90,9 @@ fn drive_text<F: Files, W: Sink>(
         (left_in result) }
     ensures unbegun { NeverBegun result.status → result.sim ≡ None }
 {
-    pz_env_closing::laws::driven_runs_end_once();
-    pz_env_script::laws::texts_have_one_answer();
-    pz_run_reading::laws::open_or_refused();
+    laws::driven_runs_end_once();
+    laws::texts_have_one_answer();
+    laws::open_or_refused();
     match read_open_model(alloc, text) {
         Ok(checked) => drive_model(alloc, checked, script, play, files, out),
         Err(error) => Finish {
@@ -186,7 +179,7 @@ fn drive_script<W: Sink>(
         Hands (DriveHandsOut play (checked_model checked) file) result.status (left_in result) }
     ensures unbegun { NeverBegun result.status → result.sim ≡ None }
 {
-    pz_env_closing::laws::closed_runs_are_driven();
+    laws::closed_runs_are_driven();
     let closed = close_checked(alloc, &checked, &script);
     drop(checked);
     drop(script);

@@ -1,4 +1,4 @@
-use crate::Status;
+use pz_run_output::Status;
 use pz_sim::Sim;
 
 /// How a call of the program ended.

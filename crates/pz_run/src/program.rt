@@ -1,21 +1,19 @@
 // The top call.
 ghost use Rattle.std.specs.Prelude.{◌≡◌, ◌≢◌, ◌⊎◌, ◌<◌, ◌+◌, ℕ, true, None, length, map, string_bytes};
 ghost use Rattle.pz_io.specs.Outside.{Rose};
-ghost use Rattle.pz_offer.specs.declared.trouble.Trouble.{Trouble};
-ghost use Rattle.pz_rules.specs.Runs.{Ending, deadlocked, troubled, refused};
-ghost use Rattle.pz_run.specs.Words.{OfAsked};
-ghost use Rattle.pz_run.specs.Files.{files_of};
-ghost use Rattle.pz_run.specs.Status.{status_of};
-ghost use Rattle.pz_run.specs.Promises.{CameThrough, PrintsAll, PrintsFront, OpensFiles, EndsReading, EndsWriting, SaysFault, IsPastLimit, Lacks, IsLonger, IsNoModel, HasModelText, RunEnds, IsNoTrace, IsBrokenAt, IsNoWatches, IsNoScript, CanEnd};
+ghost use Rattle.pz_run_output.specs.pz_trace.pz_offer.declared.trouble.Trouble.{Trouble};
+ghost use Rattle.pz_run_output.specs.pz_trace.pz_rules.Runs.{Ending, deadlocked, troubled, refused};
+ghost use Rattle.pz_run_output.specs.Words.{OfAsked};
+ghost use Rattle.pz_run_output.specs.Files.{files_of};
+ghost use Rattle.pz_run_output.specs.Status.{status_of};
+ghost use Rattle.pz_run_output.specs.Promises.{CameThrough, PrintsAll, PrintsFront, OpensFiles, EndsReading, EndsWriting, SaysFault, IsPastLimit, Lacks, IsLonger, IsNoModel, HasModelText, RunEnds, IsNoTrace, IsBrokenAt, IsNoWatches, IsNoScript, CanEnd};
 ghost use Rattle.pz_run.specs.HandedOut.{HandsOut, left_in, NeverBegun};
-ghost use Rattle.pz_run.specs.devices.Keeping.{KeepsPromises};
+ghost use Rattle.pz_run_output.specs.devices.Keeping.{KeepsPromises};
 
-use crate::Status;
 use crate::doing::do_job;
 use crate::finish::Finish;
-use crate::printing::say;
 use pz_io::{Files, Sink};
-use pz_run_lines::usage_line;
+use pz_run_output::{Status, say, usage_line};
 use pz_words::read_words;
 use std::alloc::Global;
 

@@ -1,42 +1,37 @@
 // Replays of traces.
 ghost use Rattle.std.specs.Prelude.{◌≡◌, ◌-◌, ◌≤◌, ◌<◌, ◌^◌, ℕ, true, length, MatchOption, None};
-ghost use Rattle.pz_syntax.specs.Classes.{ModelTree};
-ghost use Rattle.pz_classes.specs.CheckedView.{checked_model};
-ghost use Rattle.pz_classes_openings.specs.OpeningRules.{Opens};
-ghost use Rattle.pz_rules.specs.declared.limits.Edition.TheVariants.{Two};
-ghost use Rattle.pz_rules.specs.Settings.{Setting};
-ghost use Rattle.pz_rules.specs.Clocks.{most_actions};
-ghost use Rattle.pz_trace.specs.Forms.{HasHeader};
-ghost use Rattle.pz_term_simulator.specs.Simulations.{Starts, model_in, limits_in};
+ghost use Rattle.pz_bind.specs.pz_syntax.Classes.{ModelTree};
+ghost use Rattle.pz_bind.specs.pz_classes.CheckedView.{checked_model};
+ghost use Rattle.pz_run_output.specs.pz_classes_openings.OpeningRules.{Opens};
+ghost use Rattle.pz_run_output.specs.pz_trace.pz_rules.declared.limits.Edition.TheVariants.{Two};
+ghost use Rattle.pz_run_output.specs.pz_trace.pz_rules.Settings.{Setting};
+ghost use Rattle.pz_run_output.specs.pz_trace.pz_rules.Clocks.{most_actions};
+ghost use Rattle.pz_run_output.specs.pz_trace.Forms.{HasHeader};
+ghost use Rattle.pz_sim.specs.pz_term_simulator.Simulations.{Starts, model_in, limits_in};
 ghost use Rattle.pz_sim.specs.Sims.{simulation_of};
-ghost use Rattle.pz_run_replaying.specs.Replays.{TellsLines, IsReplayed};
-ghost use Rattle.pz_run_reading.specs.Models.{IsModelOf};
-ghost use Rattle.pz_run.specs.Files.{model_file, trace_file};
-ghost use Rattle.pz_run.specs.Plays.{setting_with};
-ghost use Rattle.pz_run.specs.Editions.{HasNoHeader, IsOfSecondEdition, OpensFor};
-ghost use Rattle.pz_run.specs.Output.{PrintsReplay};
-ghost use Rattle.pz_run.specs.Promises.{CameThrough};
+ghost use Rattle.pz_run_output.specs.pz_run_replaying.Replays.{TellsLines, IsReplayed};
+ghost use Rattle.pz_run_output.specs.pz_run_lines.pz_run_reading.Models.{IsModelOf};
+ghost use Rattle.pz_run_output.specs.Files.{model_file, trace_file};
+ghost use Rattle.pz_run_output.specs.Plays.{setting_with};
+ghost use Rattle.pz_run_output.specs.Editions.{HasNoHeader, IsOfSecondEdition, OpensFor};
+ghost use Rattle.pz_run_output.specs.Output.{PrintsReplay};
+ghost use Rattle.pz_run_output.specs.Promises.{CameThrough};
 ghost use Rattle.pz_run.specs.HandedOut.{TraceHandsOut, ModelHandsOut, TraceFileHandsOut, left_in, NeverBegun};
-ghost use Rattle.pz_run.specs.devices.Saying.{Says, Answers};
+ghost use Rattle.pz_run_output.specs.devices.Saying.{Says, Answers};
 ghost use Rattle.pz_run.specs.devices.Handing.{Hands, FileHands};
-ghost use Rattle.pz_run.specs.devices.Reading.{ReadsFile};
-ghost use Rattle.pz_run.specs.devices.Replaying.{tells_first, ReplaysText, ReplaysFiles};
+ghost use Rattle.pz_run_output.specs.devices.Reading.{ReadsFile};
+ghost use Rattle.pz_run_output.specs.devices.Replaying.{tells_first, ReplaysText, ReplaysFiles};
 
-use crate::Status;
-use crate::files::say_unread;
 use crate::finish::Finish;
-use crate::laws::traces_are_known;
-use crate::limits::{MODEL_LIMIT, TRACE_LIMIT};
-use crate::refusing::refuse_header;
 use crate::starting::start;
-use crate::texts::say_refused;
-use pz_classes::Checked;
+use pz_bind::pz_classes::Checked;
 use pz_io::{Files, Halt, Sink, read_all};
-use pz_run_reading::{open_model, read_model};
-use pz_run_replaying::{Replayed, replay};
+use pz_run_output::{
+    Form, MODEL_LIMIT, Replayed, Status, TRACE_LIMIT, form_told, laws, open_model, read_model,
+    refuse_header, replay, say_refused, say_unread,
+};
 use pz_sim::Sim;
-use pz_term_simulator::Steps;
-use pz_trace::{Form, form_told};
+use pz_sim::pz_term_simulator::Steps;
 use std::alloc::Global;
 use std::marker::Brand;
 use std::mem::drop;
@@ -85,8 +80,8 @@ fn replay_text<F: Files, W: Sink>(
         text.now (left_in result) }
     ensures unbegun { NeverBegun result.status → result.sim ≡ None }
 {
-    traces_are_known();
-    pz_run_reading::laws::one_model();
+    laws::traces_are_known();
+    laws::one_model();
     match read_model(alloc, text) {
         Ok(checked) => replay_model(alloc, checked, trace, units, files, out),
         Err(error) => Finish {
@@ -141,7 +136,7 @@ fn replay_trace<W: Sink>(
         (left_in result) }
     ensures unbegun { NeverBegun result.status → result.sim ≡ None }
 {
-    pz_trace::laws::headers_differ();
+    laws::headers_differ();
     let told = form_told(trace);
     if is_first(told) {
         replay_form(alloc, checked, Form::One, trace, units, out)

@@ -1,16 +1,16 @@
 // The start of a run.
 ghost use Rattle.std.specs.Prelude.{◌≡◌, IfOk};
-ghost use Rattle.pz_classes.specs.CheckedView.{checked_model};
-ghost use Rattle.pz_classes_openings.specs.OpeningRules.{Opens};
-ghost use Rattle.pz_rules.specs.declared.limits.Edition.TheVariants.{Two};
-ghost use Rattle.pz_term_simulator.specs.Simulations.{Starts};
+ghost use Rattle.pz_bind.specs.pz_classes.CheckedView.{checked_model};
+ghost use Rattle.pz_run_output.specs.pz_classes_openings.OpeningRules.{Opens};
+ghost use Rattle.pz_run_output.specs.pz_trace.pz_rules.declared.limits.Edition.TheVariants.{Two};
+ghost use Rattle.pz_sim.specs.pz_term_simulator.Simulations.{Starts};
 ghost use Rattle.pz_sim.specs.Sims.{simulation_of};
-ghost use Rattle.pz_run.specs.Plays.{setting_with};
+ghost use Rattle.pz_run_output.specs.Plays.{setting_with};
 
 use pz_bind::Net;
-use pz_classes::Checked;
+use pz_bind::pz_classes::Checked;
+use pz_run_output::{Form, limits_of};
 use pz_sim::Sim;
-use pz_trace::{Form, limits_of};
 use std::alloc::{AllocError, Global};
 use std::mem::drop;
 

@@ -1,46 +1,40 @@
 // Runs that watches judge.
 ghost use Rattle.std.specs.Prelude.{◌≡◌, ◌-◌, ◌≤◌, ◌<◌, ◌^◌, ℕ, true, List, [], length, None};
-ghost use Rattle.pz_syntax.specs.Classes.{ModelTree};
-ghost use Rattle.pz_classes.specs.CheckedView.{checked_model};
-ghost use Rattle.pz_classes_openings.specs.OpeningRules.{Opens};
-ghost use Rattle.pz_rules.specs.declared.limits.Edition.TheVariants.{Two};
-ghost use Rattle.pz_rules.specs.Settings.{Setting};
-ghost use Rattle.pz_rules.specs.Clocks.{most_actions};
-ghost use Rattle.pz_term_simulator.specs.Simulations.{Starts, model_in, limits_in};
+ghost use Rattle.pz_bind.specs.pz_syntax.Classes.{ModelTree};
+ghost use Rattle.pz_bind.specs.pz_classes.CheckedView.{checked_model};
+ghost use Rattle.pz_run_output.specs.pz_classes_openings.OpeningRules.{Opens};
+ghost use Rattle.pz_run_output.specs.pz_trace.pz_rules.declared.limits.Edition.TheVariants.{Two};
+ghost use Rattle.pz_run_output.specs.pz_trace.pz_rules.Settings.{Setting};
+ghost use Rattle.pz_run_output.specs.pz_trace.pz_rules.Clocks.{most_actions};
+ghost use Rattle.pz_sim.specs.pz_term_simulator.Simulations.{Starts, model_in, limits_in};
 ghost use Rattle.pz_sim.specs.Sims.{simulation_of};
-ghost use Rattle.pz_lines.specs.Identifiers.{is_identifier};
+ghost use Rattle.pz_run_output.specs.pz_lines.Identifiers.{is_identifier};
 ghost use Rattle.pz_watch.specs.declared.errors.ReadWatchesError.TheVariants.{NoMemory, Refused};
 ghost use Rattle.pz_watch.specs.Files.{NamedFormula, AreWatches, IsRefusedAt};
 ghost use Rattle.pz_watch.specs.devices.Standing.{StandForEach};
-ghost use Rattle.pz_run_playing.specs.Watched.{PlaysWatched};
-ghost use Rattle.pz_run.specs.Files.{model_file as file_of_model, watch_file as file_of};
-ghost use Rattle.pz_run.specs.Plays.{setting_for, policy_for};
-ghost use Rattle.pz_run.specs.Output.{PrintsJudged};
-ghost use Rattle.pz_run.specs.Promises.{CameThrough};
+ghost use Rattle.pz_run_output.specs.pz_env_closing.pz_run_playing.Watched.{PlaysWatched};
+ghost use Rattle.pz_run_output.specs.Files.{model_file as file_of_model, watch_file as file_of};
+ghost use Rattle.pz_run_output.specs.Plays.{setting_for, policy_for};
+ghost use Rattle.pz_run_output.specs.Output.{PrintsJudged};
+ghost use Rattle.pz_run_output.specs.Promises.{CameThrough};
 ghost use Rattle.pz_run.specs.HandedOut.{RunHandsOut, WatchHandsOut, OpenModelHandsOut, WatchFileHandsOut, left_in, NeverBegun};
-ghost use Rattle.pz_run.specs.devices.Saying.{Says, Answers};
+ghost use Rattle.pz_run_output.specs.devices.Saying.{Says, Answers};
 ghost use Rattle.pz_run.specs.devices.Handing.{Hands, FileHands};
-ghost use Rattle.pz_run.specs.devices.Reading.{ReadsFile};
-ghost use Rattle.pz_run.specs.devices.TwoFiles.{AnswersText, AnswersFiles};
+ghost use Rattle.pz_run_output.specs.devices.Reading.{ReadsFile};
+ghost use Rattle.pz_run_output.specs.devices.TwoFiles.{AnswersText, AnswersFiles};
 ghost use Rattle.pz_run.specs.devices.Judging.{PrintsWatches};
 
-use crate::Status;
-use crate::files::say_unread;
 use crate::finish::Finish;
-use crate::limits::{MODEL_LIMIT, WATCH_LIMIT};
-use crate::play::Play;
-use crate::printing::say_made;
 use crate::starting::start;
-use crate::texts::say_refused;
-use pz_classes::Checked;
+use pz_bind::pz_classes::Checked;
+use pz_bind::pz_items::Items;
 use pz_io::{Files, Halt, Sink, read_all};
-use pz_items::Items;
-use pz_run_lines::watch_refused_line;
-use pz_run_playing::{Judged, play_watched};
-use pz_run_reading::read_open_model;
+use pz_run_output::{
+    Form, Judged, MODEL_LIMIT, Play, Status, WATCH_LIMIT, laws, play_watched, read_open_model,
+    say_made, say_refused, say_unread, watch_refused_line,
+};
 use pz_sim::Sim;
-use pz_term_simulator::Steps;
-use pz_trace::Form;
+use pz_sim::pz_term_simulator::Steps;
 use pz_watch::{ReadWatchesError, Watch, read_watches};
 use std::alloc::Global;
 use std::marker::Brand;
@@ -93,9 +87,9 @@ fn watch_text<F: Files, W: Sink>(
         (left_in result) }
     ensures unbegun { NeverBegun result.status → result.sim ≡ None }
 {
-    pz_run_playing::laws::one_run();
+    laws::one_run();
     pz_watch::laws::files_have_one_answer();
-    pz_run_reading::laws::open_or_refused();
+    laws::open_or_refused();
     match read_open_model(alloc, text) {
         Ok(checked) => watch_model(alloc, checked, watches, play, files, out),
         Err(error) => Finish {

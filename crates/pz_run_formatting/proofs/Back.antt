@@ -1,10 +1,10 @@
 -- What is read of a layout.
 use Rattle.std.proofs.Common.{◌≡◌, ℕ, List, [], ◌∷◌, map, true, refl, sym, ap, subst, ◌∙◌, arith}
 use Rattle.std.specs.List.{list_all}
-use Rattle.pz_syntax.specs.declared.tokens.Token.{Token}
-use Rattle.pz_syntax.specs.Classes.{ModelTree}
-use Rattle.pz_syntax.specs.ModelForm.{IsModel}
-use Rattle.pz_syntax.specs.ModelText as mt
+use Rattle.pz_classes.specs.pz_syntax.declared.tokens.Token.{Token}
+use Rattle.pz_classes.specs.pz_syntax.Classes.{ModelTree}
+use Rattle.pz_classes.specs.pz_syntax.ModelForm.{IsModel}
+use Rattle.pz_classes.specs.pz_syntax.ModelText as mt
 use Rattle.pz_lexer.specs.declared.kept.Piece.{Piece}
 use Rattle.pz_lexer.specs.Tokens.{AreTokens}
 use Rattle.pz_lexer.specs.Kept.{AreKept, tokens_among}

@@ -1,6 +1,6 @@
 -- Why a text is refused.
 use Rattle.std.proofs.Common.{◌≡◌, ◌⊎◌, inl, inr, ℕ, List, Result, ap}
-use Rattle.pz_syntax.specs.Classes.{ModelTree}
+use Rattle.pz_classes.specs.pz_syntax.Classes.{ModelTree}
 use Rattle.pz_lexer.specs.declared.error.LexError.{LexError}
 use Rattle.pz_lexer.specs.declared.error.LexError.TheVariants as lex
 use Rattle.pz_lexer.specs.Tokens.{IsRefused}

@@ -1,8 +1,8 @@
 -- The layout of the text of a model.
 use Rattle.std.specs.Prelude.{◌≡◌, ℕ, List}
-use Rattle.pz_syntax.specs.declared.tokens.Token.{Token}
-use Rattle.pz_syntax.specs.Classes.{ModelTree}
-use Rattle.pz_syntax.specs.ModelErasure.{erase}
+use Rattle.pz_classes.specs.pz_syntax.declared.tokens.Token.{Token}
+use Rattle.pz_classes.specs.pz_syntax.Classes.{ModelTree}
+use Rattle.pz_classes.specs.pz_syntax.ModelErasure.{erase}
 use Rattle.pz_lexer.specs.declared.kept.Piece.{Piece}
 use Rattle.pz_lexer.specs.Tokens.{AreTokens}
 use Rattle.pz_lexer.specs.Kept.{AreKept}

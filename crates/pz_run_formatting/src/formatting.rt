@@ -1,7 +1,7 @@
 // The layout of the text of a model.
 
 ghost use Rattle.std.specs.Prelude.{◌≡◌, ◌-◌, ◌<◌, ◌^◌, IfOk, IfErr, length};
-ghost use Rattle.pz_syntax.specs.Classes.{ModelTree};
+ghost use Rattle.pz_classes.specs.pz_syntax.Classes.{ModelTree};
 ghost use Rattle.pz_run_reading.specs.Openings.{IsOpenModelOf, IsRefusedToOpen};
 ghost use Rattle.pz_run_reading.specs.Answers.{OnRefused};
 ghost use Rattle.pz_run_formatting.specs.Layouts.{IsLayoutOf};

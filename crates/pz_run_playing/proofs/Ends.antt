@@ -1,7 +1,7 @@
 -- The trouble in which a chosen run ends names a process of the net.
 use Rattle.std.proofs.Common.{◌≡◌, ℕ, Bool, true, false, List, Option, Some, None, subst, ap, ◌∙◌}
 use Rattle.std.specs.Prelude.{nat_le, nat_lt, if◌then◌else◌}
-use Rattle.pz_offer.specs.declared.trouble.Trouble.{Trouble}
+use Rattle.pz_rules.specs.pz_offer.declared.trouble.Trouble.{Trouble}
 use Rattle.pz_bind.specs.declared.net.Net.{Net}
 use Rattle.pz_bind.specs.devices.Nets.{IsNet}
 use Rattle.pz_rules.specs.declared.moment.Moment.{Moment}
@@ -12,7 +12,7 @@ use Rattle.pz_rules.specs.Moments.{IsMoment}
 use Rattle.pz_rules.specs.Runs.{Event, Ending, ended, deadlocked, troubled, halted, refused}
 use Rattle.pz_rules.specs.ChosenRuns as chosen
 use Rattle.pz_rules.specs.ChosenRuns.{Policy, Decision, stops_with, takes, waits, is_beyond, used_up, entry_of, decided, IsChosenRun}
-use Rattle.pz_trace.specs.Named.{HasTroubled}
+use Rattle.pz_watch_points.specs.pz_trace.Named.{HasTroubled}
 use Rattle.pz_run_playing.specs.devices.Known.{Known}
 use Rattle.pz_run_playing.specs.devices.Rests.{IsTroubledIn}
 

@@ -8,9 +8,9 @@ use Rattle.std.proofs.lemmas.Bool.{cases_lt}
 use Rattle.pz_io.specs.Outside.{SinkState}
 use Rattle.pz_io.specs.declared.writing.Halt.{Halt}
 use Rattle.pz_io.specs.Writing.{Wrote}
-use Rattle.pz_syntax.specs.Classes.{ModelTree}
+use Rattle.pz_rules.specs.pz_syntax.Classes.{ModelTree}
 use Rattle.pz_rules.specs.Runs.{Event}
-use Rattle.pz_trace.specs.TraceText.{event_line}
+use Rattle.pz_watch_points.specs.pz_trace.TraceText.{event_line}
 use Rattle.pz_watch.specs.Points.{Point, clock_at, AreInOrder}
 use Rattle.pz_watch.specs.Files.{NamedFormula}
 use Rattle.pz_watch.specs.Breaking.{broken_at, broken_lines}

@@ -1,14 +1,14 @@
 -- The words of a last line, what they name, and its text.
 use Rattle.std.proofs.Common.{◌≡◌, ◌∙◌, sym, ap, subst, refl, ℕ, List, ◌++◌, codes}
 use Rattle.std.specs.Fmt.{decimal}
-use Rattle.pz_syntax.specs.Classes.{ModelTree}
+use Rattle.pz_rules.specs.pz_syntax.Classes.{ModelTree}
 use Rattle.pz_bind.specs.declared.net.Net.{Net}
 use Rattle.pz_rules.specs.Runs.{Ending}
-use Rattle.pz_trace.specs.declared.ending.Ending.{Ending as LastEnding}
-use Rattle.pz_trace.specs.declared.ending.Ending.TheVariants as ending
-use Rattle.pz_trace.specs.Lines.{newline, end_words, end_line}
-use Rattle.pz_trace.specs.Named.{IsNamedAtEnd}
-use Rattle.pz_trace.specs.TraceText.{trace_header, events_text, run_ending}
+use Rattle.pz_watch_points.specs.pz_trace.declared.ending.Ending.{Ending as LastEnding}
+use Rattle.pz_watch_points.specs.pz_trace.declared.ending.Ending.TheVariants as ending
+use Rattle.pz_watch_points.specs.pz_trace.Lines.{newline, end_words, end_line}
+use Rattle.pz_watch_points.specs.pz_trace.Named.{IsNamedAtEnd}
+use Rattle.pz_watch_points.specs.pz_trace.TraceText.{trace_header, events_text, run_ending}
 use Rattle.pz_rules.specs.Runs.{Ends}
 use Rattle.pz_rules.specs.Laws.{IsOwn, ChosenRunsAreRuns}
 use Rattle.pz_run_playing.specs.Endings.{ending_words, last_line}

@@ -6,10 +6,10 @@ use Rattle.std.proofs.lemmas.Option.{get_or_from_slice_get, slice_get_within}
 use Rattle.pz_io.specs.Outside.{SinkState}
 use Rattle.pz_io.specs.declared.writing.Halt.{Halt}
 use Rattle.pz_io.specs.Writing.{Wrote}
-use Rattle.pz_syntax.specs.Classes.{ModelTree}
+use Rattle.pz_rules.specs.pz_syntax.Classes.{ModelTree}
 use Rattle.pz_rules.specs.declared.action.Action.{Action}
 use Rattle.pz_rules.specs.declared.moment.Moment.TheVariants.{Actions}
-use Rattle.pz_trace.specs.Lines.{action_line}
+use Rattle.pz_watch_points.specs.pz_trace.Lines.{action_line}
 use Rattle.pz_term_simulator.specs.Simulations as simulations
 use Rattle.pz_term_simulator.specs.Simulations.{Simulation, IsMomentOf, AreOffersOf, IsOffer}
 use Rattle.pz_run_playing.specs.Menus.{offer_line, offers_text}

@@ -1,11 +1,11 @@
 -- How a run has ended, in words: those of a trace, and those of an entry that is no offer.
 use Rattle.std.specs.Prelude.{ℕ, List, ◌++◌, codes}
 use Rattle.std.specs.Fmt.{decimal}
-use Rattle.pz_syntax.specs.Classes.{ModelTree}
+use Rattle.pz_rules.specs.pz_syntax.Classes.{ModelTree}
 use Rattle.pz_rules.specs.Runs.{Ending, ended, deadlocked, troubled, halted, refused}
-use Rattle.pz_trace.specs.declared.ending.Ending.TheVariants.{End, Deadlock, Stop, Trouble}
-use Rattle.pz_trace.specs.Lines.{newline, end_words}
-use Rattle.pz_trace.specs.TraceText.{run_ending}
+use Rattle.pz_watch_points.specs.pz_trace.declared.ending.Ending.TheVariants.{End, Deadlock, Stop, Trouble}
+use Rattle.pz_watch_points.specs.pz_trace.Lines.{newline, end_words}
+use Rattle.pz_watch_points.specs.pz_trace.TraceText.{run_ending}
 use Rattle.pz_run_playing.specs.declared.finale.Finale.{Finale}
 use Rattle.pz_run_playing.specs.declared.finale.Finale.TheVariants as finale
 

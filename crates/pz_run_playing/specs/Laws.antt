@@ -1,11 +1,11 @@
 -- Laws of runs that are chosen, and of their texts.
 use Rattle.std.specs.Prelude.{◌≡◌, ℕ, List}
-use Rattle.pz_classes.specs.Soundness.{IsSound}
+use Rattle.pz_rules.specs.pz_classes_rules.Soundness.{IsSound}
 use Rattle.pz_rules.specs.Settings.{Setting}
 use Rattle.pz_rules.specs.Runs.{Event}
 use Rattle.pz_rules.specs.ChosenRuns.{Policy}
-use Rattle.pz_trace.specs.declared.ending.Ending.{Ending}
-use Rattle.pz_trace.specs.TraceText.{trace_text, run_ending, IsTrace}
+use Rattle.pz_watch_points.specs.pz_trace.declared.ending.Ending.{Ending}
+use Rattle.pz_watch_points.specs.pz_trace.TraceText.{trace_text, run_ending, IsTrace}
 use Rattle.pz_run_playing.specs.RunText.{run_text}
 use Rattle.pz_run_playing.specs.Playing.{ChosenRun}
 

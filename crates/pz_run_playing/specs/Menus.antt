@@ -1,7 +1,7 @@
 -- What there is to choose from where a run has ended.
 use Rattle.std.specs.Prelude.{◌≢◌, ℕ, ◌+◌, List, [], ◌∷◌, ◌++◌, codes}
 use Rattle.std.specs.Fmt.{decimal}
-use Rattle.pz_syntax.specs.Classes.{ModelTree}
+use Rattle.pz_rules.specs.pz_syntax.Classes.{ModelTree}
 use Rattle.pz_rules.specs.declared.action.Action.{Action}
 use Rattle.pz_rules.specs.declared.moment.Moment.TheVariants.{Actions}
 use Rattle.pz_rules.specs.Settings.{Setting}
@@ -9,8 +9,8 @@ use Rattle.pz_rules.specs.Configurations.{Config}
 use Rattle.pz_rules.specs.Offers.{IsOffers}
 use Rattle.pz_rules.specs.Moments.{IsMoment}
 use Rattle.pz_rules.specs.Runs.{Ending, halted}
-use Rattle.pz_trace.specs.Labels.{label}
-use Rattle.pz_trace.specs.Lines.{newline}
+use Rattle.pz_watch_points.specs.pz_trace.Labels.{label}
+use Rattle.pz_watch_points.specs.pz_trace.Lines.{newline}
 
 -- where a run was stopped before an action, the offers in their order; else there are none
 pub data AreLeft (setting : Setting) (end : Config) : Ending → List Action → Type 0 where

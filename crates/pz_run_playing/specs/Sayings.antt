@@ -1,9 +1,9 @@
 -- What is written of a run while it goes on: of each event what goes with it, which may depend on those
 -- before it.
 use Rattle.std.specs.Prelude.{ℕ, List, [], ◌∷◌, ◌++◌, length}
-use Rattle.pz_syntax.specs.Classes.{ModelTree}
+use Rattle.pz_rules.specs.pz_syntax.Classes.{ModelTree}
 use Rattle.pz_rules.specs.Runs.{Event}
-use Rattle.pz_trace.specs.TraceText.{event_line}
+use Rattle.pz_watch_points.specs.pz_trace.TraceText.{event_line}
 use Rattle.pz_watch.specs.Files.{NamedFormula}
 use Rattle.pz_watch.specs.Breaking.{broken_at, broken_lines}
 use Rattle.pz_watch_points.specs.EventPoints.{points_of}

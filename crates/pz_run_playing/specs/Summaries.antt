@@ -1,9 +1,9 @@
 -- One line for a whole run.
 use Rattle.std.specs.Prelude.{ℕ, ◌+◌, List, [], ◌∷◌, ◌++◌, codes}
 use Rattle.std.specs.Fmt.{decimal}
-use Rattle.pz_syntax.specs.Classes.{ModelTree}
+use Rattle.pz_rules.specs.pz_syntax.Classes.{ModelTree}
 use Rattle.pz_rules.specs.Runs.{Event, acted, passed, Ending}
-use Rattle.pz_trace.specs.Lines.{newline}
+use Rattle.pz_watch_points.specs.pz_trace.Lines.{newline}
 use Rattle.pz_run_playing.specs.Endings.{ending_words}
 
 -- how many actions there were, one that ended in a trouble included

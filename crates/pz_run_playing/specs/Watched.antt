@@ -7,7 +7,7 @@ use Rattle.pz_io.specs.Writing.{Wrote}
 use Rattle.pz_rules.specs.Settings.{Setting}
 use Rattle.pz_rules.specs.Runs.{Event, Ending}
 use Rattle.pz_rules.specs.ChosenRuns.{Policy}
-use Rattle.pz_trace.specs.TraceText.{trace_header}
+use Rattle.pz_watch_points.specs.pz_trace.TraceText.{trace_header}
 use Rattle.pz_term_simulator.specs.Simulations.{Simulation, stands}
 use Rattle.pz_watch.specs.Files.{NamedFormula}
 use Rattle.pz_watch.specs.Breaking.{AreBroken}

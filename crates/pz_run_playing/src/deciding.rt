@@ -4,7 +4,7 @@ ghost use Rattle.std.specs.Prelude.{◌≡◌, ◌≢◌, ◌≤◌, ◌<◌, �
 ghost use Rattle.pz_choice.specs.Resolvers.{Resolver, choice, left_over};
 ghost use Rattle.pz_choice.specs.Choosers.{Stands};
 ghost use Rattle.pz_rules.specs.ChosenRuns as chosen_runs;
-ghost use Rattle.pz_trace.specs.TraceText.{run_ending};
+ghost use Rattle.pz_watch_points.specs.pz_trace.TraceText.{run_ending};
 ghost use Rattle.pz_run_playing.specs.Policies.{policy_of};
 ghost use Rattle.pz_run_playing.specs.Endings.{ending_of};
 ghost use Rattle.pz_run_playing.specs.devices.Deciding.{decision_of, IfTake, MayTake};
@@ -12,7 +12,7 @@ ghost use Rattle.pz_run_playing.specs.devices.Deciding.{decision_of, IfTake, May
 use crate::Finale;
 use pz_choice::Chooser;
 use pz_term_simulator::Moment;
-use pz_trace::Ending;
+use pz_watch_points::pz_trace::Ending;
 use pz_words::RunLimits;
 
 /// What is decided at a moment at which no time passes.

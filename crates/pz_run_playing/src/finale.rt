@@ -1,4 +1,4 @@
-use pz_trace::Ending;
+use pz_watch_points::pz_trace::Ending;
 
 /// How a run that is chosen has ended.
 #[derive(Clone, Copy, Debug, PartialEq, Eq)]

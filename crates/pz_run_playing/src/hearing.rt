@@ -3,7 +3,7 @@
 ghost use Rattle.std.specs.Prelude.{◌≡◌, ◌<◌, ℕ, List, [], ◌∷◌, ◌++◌, OnOk};
 ghost use Rattle.std.specs.Result.{result_err};
 ghost use Rattle.pz_io.specs.Writing.{Wrote};
-ghost use Rattle.pz_syntax.specs.Classes.{ModelTree};
+ghost use Rattle.pz_rules.specs.pz_syntax.Classes.{ModelTree};
 ghost use Rattle.pz_rules.specs.declared.action.Action.{Action as TheAction};
 ghost use Rattle.pz_rules.specs.Runs.{Event, acted, passed};
 ghost use Rattle.pz_term_simulator.specs.Simulations.{IsMomentOf, IsOffer, model_in, clock_in};

@@ -33,7 +33,7 @@ pub(crate) fn rules_are_known()
     pz_rules::laws::passings_end();
     pz_term_simulator::laws::simulators_show_one_moment();
     pz_term_simulator::laws::room_is_left();
-    pz_trace::laws::what_happens_is_named();
+    pz_watch_points::pz_trace::laws::what_happens_is_named();
     pz_io::laws::pieces_join();
     pz_watch_points::laws::processes_are_there();
 }

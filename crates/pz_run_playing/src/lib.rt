@@ -14,4 +14,5 @@ mod runs;
 mod telling;
 
 pub use finale::{Finale, Judged};
+pub use pz_rules;
 pub use runs::{play_menu, play_summary, play_trace, play_under, play_watched};

@@ -1,10 +1,10 @@
 // The lines of runs that are none of a trace. The only error is want of memory.
 
 ghost use Rattle.std.specs.Prelude.{◌≡◌, IfOk};
-ghost use Rattle.pz_syntax.specs.Classes.{ModelTree};
-ghost use Rattle.pz_classes.specs.CheckedView.{checked_model};
+ghost use Rattle.pz_rules.specs.pz_syntax.Classes.{ModelTree};
+ghost use Rattle.pz_bind.specs.pz_classes.CheckedView.{checked_model};
 ghost use Rattle.pz_bind.specs.devices.Nets.{IsNet};
-ghost use Rattle.pz_trace.specs.Named.{IsNamed};
+ghost use Rattle.pz_watch_points.specs.pz_trace.Named.{IsNamed};
 ghost use Rattle.pz_run_playing.specs.Endings as endings;
 ghost use Rattle.pz_run_playing.specs.Endings.{ending_of};
 ghost use Rattle.pz_run_playing.specs.Summaries.{summary_of};
@@ -14,9 +14,9 @@ ghost use Rattle.pz_run_playing.specs.devices.Rests.{HasTroubledAtEnd};
 use crate::Finale;
 use crate::playing::Played;
 use pz_bind::Net;
-use pz_classes::Checked;
+use pz_bind::pz_classes::Checked;
 use pz_term_simulator::Action;
-use pz_trace::{end_words, label};
+use pz_watch_points::pz_trace::{end_words, label};
 use std::alloc::{AllocError, Global};
 
 // How a run has ended, in words.

@@ -1,5 +1,5 @@
 ghost use Rattle.std.specs.Prelude.{◌≡◌, ◌↔◌, List, IsTrue};
-ghost use Rattle.pz_syntax.specs.Classes.{ModelTree};
+ghost use Rattle.pz_rules.specs.pz_syntax.Classes.{ModelTree};
 ghost use Rattle.pz_rules.specs.Runs.{Event};
 ghost use Rattle.pz_watch.specs.Files.{NamedFormula};
 ghost use Rattle.pz_watch.specs.Breaking.{AreBroken};

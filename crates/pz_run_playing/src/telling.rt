@@ -7,8 +7,8 @@ ghost use Rattle.pz_rules.specs.declared.action.Action.{Action as TheAction};
 ghost use Rattle.pz_rules.specs.Settings.{Setting};
 ghost use Rattle.pz_rules.specs.Configurations.{Config};
 ghost use Rattle.pz_rules.specs.Runs.{Standing};
-ghost use Rattle.pz_trace.specs.Lines as trace_lines;
-ghost use Rattle.pz_trace.specs.TraceText.{trace_header};
+ghost use Rattle.pz_watch_points.specs.pz_trace.Lines as trace_lines;
+ghost use Rattle.pz_watch_points.specs.pz_trace.TraceText.{trace_header};
 ghost use Rattle.pz_term_simulator.specs.Simulations.{IsMomentOf, AreOffersOf, stands};
 ghost use Rattle.pz_run_playing.specs.Endings as endings;
 ghost use Rattle.pz_run_playing.specs.Endings.{ending_of};
@@ -24,7 +24,7 @@ use crate::lines::{last_line, offer_line, summary_line};
 use crate::playing::Played;
 use pz_io::{Halt, Sink, put};
 use pz_term_simulator::{Action, Moment, Simulator};
-use pz_trace::{form_of, header, put_action_line, put_time_line};
+use pz_watch_points::pz_trace::{form_of, header, put_action_line, put_time_line};
 use std::alloc::{AllocError, Global};
 
 /// The first line of the trace of a run that a simulator goes through. The only error is want of memory.

@@ -3,8 +3,8 @@ use Rattle.std.proofs.Common.{◌≡◌, ◌⊎◌, inl, inr, ℕ, List, Result,
 use Rattle.std.specs.Prelude.{IfErr, MatchResult}
 use Rattle.std.specs.Result.{IsErrAnd}
 use Rattle.std.proofs.lemmas.Result.{err_from_is_err_and}
-use Rattle.pz_syntax.specs.declared.tokens.Token.{Token}
-use Rattle.pz_syntax.specs.Classes.{ModelTree}
+use Rattle.pz_bind_rules.specs.pz_syntax.declared.tokens.Token.{Token}
+use Rattle.pz_bind_rules.specs.pz_syntax.Classes.{ModelTree}
 use Rattle.pz_lexer.specs.declared.error.LexError.{LexError}
 use Rattle.pz_lexer.specs.declared.error.LexError.TheVariants as lex
 use Rattle.pz_lexer.specs.Tokens.{AreTokens}
@@ -13,13 +13,13 @@ use Rattle.pz_parser.specs.declared.error.ParseError.{ParseError}
 use Rattle.pz_parser.specs.declared.error.ParseError.TheVariants as parse
 use Rattle.pz_parser.specs.Cuts.{Refuses}
 use Rattle.pz_parser.specs.Parsing.{IsTextOf}
-use Rattle.pz_check_violations.specs.declared.violation.Violation.{Violation}
-use Rattle.pz_check_violations.specs.Order.{IsLeast}
-use Rattle.pz_classes.specs.declared.error.BuildError.{BuildError}
-use Rattle.pz_classes.specs.declared.error.BuildError.TheVariants as classes
-use Rattle.pz_classes.specs.Refusals as classes_refusals
-use Rattle.pz_classes.specs.Violations.{Violates}
-use Rattle.pz_classes.specs.Soundness.{Breaks, IsSound}
+use Rattle.pz_bind_rules.specs.pz_check_violations.declared.violation.Violation.{Violation}
+use Rattle.pz_bind_rules.specs.pz_check_violations.Order.{IsLeast}
+use Rattle.pz_bind.specs.pz_classes.declared.error.BuildError.{BuildError}
+use Rattle.pz_bind.specs.pz_classes.declared.error.BuildError.TheVariants as classes
+use Rattle.pz_bind.specs.pz_classes.Refusals as classes_refusals
+use Rattle.pz_bind_rules.specs.pz_classes_rules.Violations.{Violates}
+use Rattle.pz_bind_rules.specs.pz_classes_rules.Soundness.{Breaks, IsSound}
 use Rattle.pz_check.specs.declared.error.CheckError.{CheckError}
 use Rattle.pz_check.specs.declared.error.CheckError.TheVariants as check
 use Rattle.pz_check.specs.Together as together

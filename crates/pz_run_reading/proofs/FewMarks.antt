@@ -2,12 +2,12 @@
 use Rattle.std.proofs.Common.{◌≡◌, ap, sym, subst, ◌∙◌, ◌-◌, ◌<◌, ◌≤◌, ◌^◌, ℕ, List, length, Result, Ok, Err, arith}
 use Rattle.std.specs.Prelude.{IfOk}
 use Rattle.std.proofs.lemmas.List.{length-map}
-use Rattle.pz_syntax.specs.declared.tokens.Mark.{Mark}
-use Rattle.pz_syntax.specs.declared.tokens.Token.{Token}
-use Rattle.pz_syntax.specs.Classes.{ModelTree}
-use Rattle.pz_syntax.specs.ModelText.{text, HasFewMarks}
-use Rattle.pz_classes.specs.CheckedView.{checked_model}
-use Rattle.pz_classes.specs.declared.checked.Checked.{Checked}
+use Rattle.pz_bind_rules.specs.pz_syntax.declared.tokens.Mark.{Mark}
+use Rattle.pz_bind_rules.specs.pz_syntax.declared.tokens.Token.{Token}
+use Rattle.pz_bind_rules.specs.pz_syntax.Classes.{ModelTree}
+use Rattle.pz_bind_rules.specs.pz_syntax.ModelText.{text, HasFewMarks}
+use Rattle.pz_bind.specs.pz_classes.CheckedView.{checked_model}
+use Rattle.pz_bind.specs.pz_classes.declared.checked.Checked.{Checked}
 use Rattle.pz_run_reading.specs.declared.read_error.ReadModelError.{ReadModelError}
 use Rattle.pz_parser_cursor.specs.devices.Input.{marks}
 

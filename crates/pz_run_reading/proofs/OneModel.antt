@@ -1,7 +1,7 @@
 -- A text has one model, or it is refused.
 use Rattle.std.proofs.Common.{◌≡◌, List, sym, subst, ◌∙◌}
-use Rattle.pz_syntax.specs.declared.tokens.Token.{Token}
-use Rattle.pz_syntax.specs.Classes.{ModelTree}
+use Rattle.pz_bind_rules.specs.pz_syntax.declared.tokens.Token.{Token}
+use Rattle.pz_bind_rules.specs.pz_syntax.Classes.{ModelTree}
 use Rattle.pz_parser.specs.OneTree.{HasOnePlacedTree}
 use Rattle.pz_run_reading.specs.Models.{nesting_limit, IsTreeOf}
 use Rattle.pz_run_reading.specs.Refusals.{no_tokens, no_tree, violates, IsViolation}

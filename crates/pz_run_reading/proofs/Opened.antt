@@ -1,7 +1,7 @@
 -- Models that open, from what the parts of the reading say.
 use Rattle.std.proofs.Common.{◌≡◌, ℕ, List, refl, subst}
-use Rattle.pz_syntax.specs.Classes.{ModelTree}
-use Rattle.pz_check_violations.specs.declared.violation.Violation.{Violation}
+use Rattle.pz_bind_rules.specs.pz_syntax.Classes.{ModelTree}
+use Rattle.pz_bind_rules.specs.pz_check_violations.declared.violation.Violation.{Violation}
 use Rattle.pz_classes_openings.specs.OpeningRules.{Opens, IsOpeningViolation, in_rounds, in_sizes}
 use Rattle.pz_check.specs.declared.error.CheckError.{CheckError}
 use Rattle.pz_check.specs.declared.error.CheckError.TheVariants as check

@@ -1,11 +1,11 @@
 -- Refusals, worked out from the definitions.
 use Rattle.std.proofs.Common.{◌≡◌, ℕ, zero, suc, ◌≤◌, inl, List, [], ◌∷◌, take, None, refl, arith, codes}
-use Rattle.pz_syntax.specs.declared.tokens.Pos.{Pos}
-use Rattle.pz_syntax.specs.Classes.{DeclTree, data_class, process_class, cluster_class, system, ModelTree}
-use Rattle.pz_syntax.specs.declared.tokens.Keyword.TheVariants as k
-use Rattle.pz_syntax.specs.Marks.{keyword, each_text}
-use Rattle.pz_syntax.specs.ModelForm.{IsNonempty}
-use Rattle.pz_syntax.specs.ModelText.{decl_text}
+use Rattle.pz_bind_rules.specs.pz_syntax.declared.tokens.Pos.{Pos}
+use Rattle.pz_bind_rules.specs.pz_syntax.Classes.{DeclTree, data_class, process_class, cluster_class, system, ModelTree}
+use Rattle.pz_bind_rules.specs.pz_syntax.declared.tokens.Keyword.TheVariants as k
+use Rattle.pz_bind_rules.specs.pz_syntax.Marks.{keyword, each_text}
+use Rattle.pz_bind_rules.specs.pz_syntax.ModelForm.{IsNonempty}
+use Rattle.pz_bind_rules.specs.pz_syntax.ModelText.{decl_text}
 use Rattle.pz_parser_cursor.specs.devices.Input.{marks}
 use Rattle.pz_lexer.specs.declared.error.LexError.TheVariants as lex
 use Rattle.pz_lexer.specs.declared.sorts.Reason.TheVariants as reason

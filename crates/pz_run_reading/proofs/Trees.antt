@@ -1,7 +1,7 @@
 -- A text that has a tree is read as that tree.
 use Rattle.std.proofs.Common.{◌≡◌, ◌⊎◌, inl, inr, ℕ, List, sym, subst, ◌∙◌}
-use Rattle.pz_syntax.specs.declared.tokens.Token.{Token}
-use Rattle.pz_syntax.specs.Classes.{ModelTree}
+use Rattle.pz_bind_rules.specs.pz_syntax.declared.tokens.Token.{Token}
+use Rattle.pz_bind_rules.specs.pz_syntax.Classes.{ModelTree}
 use Rattle.pz_lexer.specs.declared.error.LexError.{LexError}
 use Rattle.pz_lexer.specs.declared.error.LexError.TheVariants as lex
 use Rattle.pz_lexer.specs.Tokens.{AreTokens}

@@ -1,6 +1,6 @@
 -- A text has one model, or it is refused, and not both.
 use Rattle.std.specs.Prelude.{◌≡◌, ℕ, List}
-use Rattle.pz_syntax.specs.Classes.{ModelTree}
+use Rattle.pz_bind_rules.specs.pz_syntax.Classes.{ModelTree}
 use Rattle.pz_run_reading.specs.declared.refusal.Refusal.{Refusal}
 use Rattle.pz_run_reading.specs.Models.{IsModelOf}
 use Rattle.pz_run_reading.specs.Refusals.{IsRefused}

@@ -1,10 +1,10 @@
 -- The model of a text.
 use Rattle.std.specs.Prelude.{ℕ, List}
-use Rattle.pz_syntax.specs.declared.tokens.Token.{Token}
-use Rattle.pz_syntax.specs.Classes.{ModelTree}
+use Rattle.pz_bind_rules.specs.pz_syntax.declared.tokens.Token.{Token}
+use Rattle.pz_bind_rules.specs.pz_syntax.Classes.{ModelTree}
 use Rattle.pz_lexer.specs.Tokens.{AreTokens}
 use Rattle.pz_parser.specs.Parsing.{IsTextOf, IsInPlace}
-use Rattle.pz_classes.specs.Soundness.{IsSound}
+use Rattle.pz_bind_rules.specs.pz_classes_rules.Soundness.{IsSound}
 
 -- how many constructs of a model may stand one in another
 abbrev pub nesting_limit : ℕ

@@ -1,7 +1,7 @@
 -- Texts of models that open, and the refusal of a text that is asked for one.
 use Rattle.std.specs.Prelude.{ℕ, List}
-use Rattle.pz_syntax.specs.Classes.{ModelTree}
-use Rattle.pz_check_violations.specs.declared.violation.Violation.{Violation}
+use Rattle.pz_bind_rules.specs.pz_syntax.Classes.{ModelTree}
+use Rattle.pz_bind_rules.specs.pz_check_violations.declared.violation.Violation.{Violation}
 use Rattle.pz_classes_openings.specs.OpeningRules.{Opens, IsOpeningViolation}
 use Rattle.pz_run_reading.specs.declared.refusal.Refusal.{Refusal}
 use Rattle.pz_run_reading.specs.declared.refusal.Refusal.TheVariants.{Violates}

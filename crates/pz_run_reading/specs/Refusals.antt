@@ -1,9 +1,9 @@
 -- When a text is refused, as what, and at which place: first its tokens, then its tree, then the rules
 -- on models.
 use Rattle.std.specs.Prelude.{ℕ, List}
-use Rattle.pz_syntax.specs.declared.tokens.Pos.{Pos}
-use Rattle.pz_syntax.specs.declared.tokens.Token.{Token}
-use Rattle.pz_syntax.specs.Classes.{ModelTree}
+use Rattle.pz_bind_rules.specs.pz_syntax.declared.tokens.Pos.{Pos}
+use Rattle.pz_bind_rules.specs.pz_syntax.declared.tokens.Token.{Token}
+use Rattle.pz_bind_rules.specs.pz_syntax.Classes.{ModelTree}
 use Rattle.pz_lexer.specs.declared.error.LexError.{LexError}
 use Rattle.pz_lexer.specs.declared.error.LexError.TheVariants as lex
 use Rattle.pz_lexer.specs.Tokens.{AreTokens}
@@ -13,10 +13,10 @@ use Rattle.pz_parser.specs.declared.error.ParseError.{ParseError}
 use Rattle.pz_parser.specs.declared.error.ParseError.TheVariants as parse
 use Rattle.pz_parser.specs.Cuts.{Refuses}
 use Rattle.pz_parser.specs.Parsing.{IsTextOf}
-use Rattle.pz_check_violations.specs.declared.violation.Violation.{Violation}
-use Rattle.pz_check_violations.specs.Order.{IsLeast}
-use Rattle.pz_classes.specs.Violations.{Violates}
-use Rattle.pz_classes.specs.Soundness.{Breaks}
+use Rattle.pz_bind_rules.specs.pz_check_violations.declared.violation.Violation.{Violation}
+use Rattle.pz_bind_rules.specs.pz_check_violations.Order.{IsLeast}
+use Rattle.pz_bind_rules.specs.pz_classes_rules.Violations.{Violates}
+use Rattle.pz_bind_rules.specs.pz_classes_rules.Soundness.{Breaks}
 use Rattle.pz_run_reading.specs.declared.refusal.Refusal.{Refusal}
 use Rattle.pz_run_reading.specs.declared.refusal.Refusal.TheVariants as refusal
 use Rattle.pz_run_reading.specs.Models.{IsTreeOf, nesting_limit}

@@ -1,8 +1,8 @@
 -- How large the system of a model is, each cluster expanded, and what a check says of a text.
 use Rattle.std.specs.Prelude.{◌≡◌, ℕ, List, length}
-use Rattle.pz_syntax.specs.Classes.{ModelTree}
-use Rattle.pz_bind.specs.Nest as nest
-use Rattle.pz_bind.specs.Wires as wiring
+use Rattle.pz_bind_rules.specs.pz_syntax.Classes.{ModelTree}
+use Rattle.pz_bind_rules.specs.Nest as nest
+use Rattle.pz_bind_rules.specs.Wires as wiring
 use Rattle.pz_run_reading.specs.Openings.{IsOpenModelOf}
 
 -- the system has so many processes and so many wires

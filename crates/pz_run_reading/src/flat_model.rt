@@ -1,9 +1,9 @@
-ghost use Rattle.pz_classes.specs.CheckedView.{checked_model};
+ghost use Rattle.pz_bind.specs.pz_classes.CheckedView.{checked_model};
 ghost use Rattle.pz_bind.specs.devices.Nets.{IsNet};
 
 use crate::size::Size;
 use pz_bind::Net;
-use pz_classes::Checked;
+use pz_bind::pz_classes::Checked;
 
 /// A model that violates no rule, and its net: the processes of its system, each cluster expanded, and
 /// the wires between them.

@@ -1,8 +1,8 @@
 // The model of a text that opens, with the processes and wires of its system.
 
 ghost use Rattle.std.specs.Prelude.{◌≡◌, ◌-◌, ◌<◌, ◌^◌, IfOk, IfErr, length};
-ghost use Rattle.pz_syntax.specs.Classes.{ModelTree};
-ghost use Rattle.pz_classes.specs.CheckedView.{checked_model};
+ghost use Rattle.pz_bind_rules.specs.pz_syntax.Classes.{ModelTree};
+ghost use Rattle.pz_bind.specs.pz_classes.CheckedView.{checked_model};
 ghost use Rattle.pz_run_reading.specs.Openings.{IsOpenModelOf, IsRefusedToOpen};
 ghost use Rattle.pz_run_reading.specs.Sizes.{IsAccepted};
 ghost use Rattle.pz_run_reading.specs.Answers.{OnRefused, FlattensAs};

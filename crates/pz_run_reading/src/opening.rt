@@ -1,17 +1,17 @@
 // Reading a model that opens: one that violates neither C23 nor C24.
 
 ghost use Rattle.std.specs.Prelude.{◌≡◌, ◌≤◌, ◌-◌, ◌<◌, ◌^◌, IfOk, OnOk, IfErr, length};
-ghost use Rattle.pz_syntax.specs.Classes.{ModelTree};
-ghost use Rattle.pz_syntax.specs.ModelText.{text as text_of};
-ghost use Rattle.pz_classes.specs.CheckedView.{checked_model};
+ghost use Rattle.pz_bind_rules.specs.pz_syntax.Classes.{ModelTree};
+ghost use Rattle.pz_bind_rules.specs.pz_syntax.ModelText.{text as text_of};
+ghost use Rattle.pz_bind.specs.pz_classes.CheckedView.{checked_model};
 ghost use Rattle.pz_classes_openings.specs.OpeningRules.{Opens};
 ghost use Rattle.pz_run_reading.specs.Openings.{IsOpenModelOf, IsRefusedToOpen, IsOpeningRefusal};
 ghost use Rattle.pz_run_reading.specs.Answers.{OnRefused, ReadsAs};
 
 use crate::read_error::ReadModelError;
 use crate::reading::read_model;
+use pz_bind::pz_classes::Checked;
 use pz_check::check_opening;
-use pz_classes::Checked;
 use std::alloc::Global;
 use std::mem::drop;
 

@@ -1,6 +1,6 @@
 use crate::refusal::Refusal;
+use pz_bind::pz_classes::BuildError;
 use pz_check::CheckError;
-use pz_classes::BuildError;
 use pz_lexer::LexError;
 use pz_parser::ParseError;
 

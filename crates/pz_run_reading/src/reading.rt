@@ -1,22 +1,22 @@
 // Reading a model: its tokens, its tree, and whether that violates a rule.
 
 ghost use Rattle.std.specs.Prelude.{◌≡◌, ◌≤◌, ◌-◌, ◌<◌, ◌^◌, IfOk, IfErr, length};
-ghost use Rattle.pz_syntax.specs.Classes.{ModelTree};
-ghost use Rattle.pz_syntax.specs.ClassView.{model_view};
-ghost use Rattle.pz_syntax.specs.ModelText.{text as text_of, HasFewMarks};
-ghost use Rattle.pz_classes.specs.CheckedView.{checked_model};
-ghost use Rattle.pz_classes.specs.Soundness.{IsSound};
+ghost use Rattle.pz_bind_rules.specs.pz_syntax.Classes.{ModelTree};
+ghost use Rattle.pz_bind_rules.specs.pz_syntax.ClassView.{model_view};
+ghost use Rattle.pz_bind_rules.specs.pz_syntax.ModelText.{text as text_of, HasFewMarks};
+ghost use Rattle.pz_bind.specs.pz_classes.CheckedView.{checked_model};
+ghost use Rattle.pz_bind_rules.specs.pz_classes_rules.Soundness.{IsSound};
 ghost use Rattle.pz_run_reading.specs.Models.{IsModelOf};
 ghost use Rattle.pz_run_reading.specs.Refusals.{IsRefused};
 ghost use Rattle.pz_run_reading.specs.Answers.{OnRefused, ReadsAs};
 ghost use Rattle.pz_run_reading.specs.devices.Reading.{HasTree, IsOnlyTree, IsViolationOf};
 
 use crate::read_error::ReadModelError;
+use pz_bind::pz_classes::{Checked, Classes};
+use pz_bind_rules::pz_syntax::Model;
 use pz_check::check;
-use pz_classes::{Checked, Classes};
 use pz_lexer::{end_of, lex, one_answer};
 use pz_parser::parse;
-use pz_syntax::Model;
 use std::alloc::Global;
 use std::mem::drop;
 

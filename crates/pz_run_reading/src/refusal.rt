@@ -1,5 +1,5 @@
-use pz_check_violations::Violation;
-use pz_syntax::Pos;
+use pz_bind_rules::pz_check_violations::Violation;
+use pz_bind_rules::pz_syntax::Pos;
 
 /// Why a text is refused, and where. What has no tokens is not looked at further, and what has no tree
 /// violates no rule.

@@ -3,7 +3,7 @@ use Rattle.std.proofs.Common.{◌≡◌, ◌≤◌, ◌<◌, refl, sym, ap, ◌�
 use Rattle.std.specs.List.{concat}
 use Rattle.std.proofs.lemmas.List.{append-nil}
 use Rattle.std.proofs.lemmas.List.Folds.{concat-append}
-use Rattle.pz_syntax.specs.ModelForm.{Each}
+use Rattle.pz_rules.specs.pz_syntax.ModelForm.{Each}
 use Rattle.pz_trace.specs.Lines.{newline}
 use Rattle.pz_trace.specs.Laws.{IsLine, OneFirstLine}
 

@@ -1,6 +1,6 @@
 -- Moments of a run on its way, and how it may end there.
 use Rattle.std.proofs.Common.{◌≡◌, refl, sym, subst, ap, ◌∙◌}
-use Rattle.pz_offer.specs.declared.trouble.Trouble.{Trouble}
+use Rattle.pz_rules.specs.pz_offer.declared.trouble.Trouble.{Trouble}
 use Rattle.pz_rules.specs.declared.moment.Moment.{Moment}
 use Rattle.pz_rules.specs.declared.moment.Moment.TheVariants.{Actions, Time, Finished, Deadlock, Faulty, Stopped, Broken}
 use Rattle.pz_rules.specs.Settings.{Setting}

@@ -1,7 +1,7 @@
 -- A text tells one run: of two runs with one text, each line leads to the same stage and tells the same event.
 use Rattle.std.proofs.Common.{◌≡◌, ◌<◌, ◌^◌, refl, sym, subst, ap, ◌∙◌, ℕ, List, [], ◌∷◌, ◌++◌, arith, append_assoc}
 use Rattle.std.proofs.lemmas.List.{append-nil, append_cancel_left}
-use Rattle.pz_syntax.specs.ModelForm.{Each}
+use Rattle.pz_rules.specs.pz_syntax.ModelForm.{Each}
 use Rattle.pz_rules.specs.declared.action.Action.{Action}
 use Rattle.pz_rules.specs.declared.moment.Moment.TheVariants.{Actions, Time}
 use Rattle.pz_rules.specs.Settings.{Setting}

@@ -7,7 +7,7 @@ use Rattle.pz_io.specs.Outside.{SinkState}
 use Rattle.pz_io.specs.declared.writing.Halt.{Halt}
 use Rattle.pz_io.specs.declared.writing.Halt.TheVariants.{NoMemory}
 use Rattle.pz_io.specs.Writing.{Wrote}
-use Rattle.pz_classes.specs.Soundness.{IsSound}
+use Rattle.pz_rules.specs.pz_classes_rules.Soundness.{IsSound}
 use Rattle.pz_rules.specs.Settings.{Setting}
 use Rattle.pz_rules.specs.Runs.{whole}
 use Rattle.pz_trace.specs.TraceText.{trace_header}

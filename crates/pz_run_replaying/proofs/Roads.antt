@@ -3,8 +3,8 @@ use Rattle.std.proofs.Common.{◌≡◌, refl, sym, subst, ap, ◌∙◌, ℕ, L
 use Rattle.std.specs.List.{concat}
 use Rattle.std.proofs.lemmas.List.{append-nil, map-append}
 use Rattle.std.proofs.lemmas.List.Folds.{concat-append}
-use Rattle.pz_syntax.specs.Classes.{ModelTree}
-use Rattle.pz_syntax.specs.ModelForm.{Each}
+use Rattle.pz_rules.specs.pz_syntax.Classes.{ModelTree}
+use Rattle.pz_rules.specs.pz_syntax.ModelForm.{Each}
 use Rattle.pz_rules.specs.declared.action.Action.{Action}
 use Rattle.pz_rules.specs.declared.moment.Moment.TheVariants.{Actions}
 use Rattle.pz_rules.specs.Settings.{Setting}

@@ -3,7 +3,7 @@ use Rattle.std.proofs.Common.{◌≡◌, ◌<◌, sym, ap, ◌∙◌, ℕ, List,
 use Rattle.std.specs.Prelude.{slice_get}
 use Rattle.std.proofs.lemmas.List.{ext_get_or}
 use Rattle.std.proofs.lemmas.Option.{slice_get-get_or}
-use Rattle.pz_bind.specs.Nest.{processes}
+use Rattle.pz_rules.specs.pz_bind_rules.Nest.{processes}
 use Rattle.pz_bind_levels.specs.Places.{Address}
 use Rattle.pz_rules.specs.Terms.{done}
 use Rattle.pz_rules.specs.Settings.{Setting, Process}

@@ -1,7 +1,7 @@
 -- Laws of the runs that traces tell.
 use Rattle.std.specs.Prelude.{◌≡◌, ◌<◌, ◌^◌, ℕ, List}
-use Rattle.pz_syntax.specs.ModelForm.{Each}
-use Rattle.pz_classes.specs.Soundness.{IsSound}
+use Rattle.pz_rules.specs.pz_syntax.ModelForm.{Each}
+use Rattle.pz_rules.specs.pz_classes_rules.Soundness.{IsSound}
 use Rattle.pz_rules.specs.Settings.{Setting}
 use Rattle.pz_rules.specs.Runs.{Event, acted, passed}
 use Rattle.pz_trace.specs.TraceText.{IsTrace}

@@ -2,7 +2,7 @@
 use Rattle.std.specs.Prelude.{◌≡◌, ℕ, suc, List, ◌++◌, Option, Some, None, length, Result, IfOk, OnOk}
 use Rattle.std.specs.List.{concat}
 use Rattle.std.specs.Result.{result_err}
-use Rattle.pz_syntax.specs.ModelForm.{Each}
+use Rattle.pz_rules.specs.pz_syntax.ModelForm.{Each}
 use Rattle.pz_io.specs.Outside.{SinkState}
 use Rattle.pz_io.specs.declared.writing.Halt.{Halt}
 use Rattle.pz_io.specs.Writing.{Wrote}

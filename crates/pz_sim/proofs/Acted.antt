@@ -7,15 +7,15 @@ use Rattle.std.specs.Coded.{Coded-set, le_prop}
 use Rattle.std.specs.declared.alloc.AllocError.{AllocError}
 use Rattle.std.proofs.lemmas.Option.{same_Some, slice_get_within, slice_get-get_or}
 use Rattle.std.proofs.lemmas.List.{length-map}
-use Rattle.pz_syntax.specs.Classes.{ModelTree}
-use Rattle.pz_syntax.specs.declared.tokens.Pos.{Pos}
+use Rattle.pz_rules.specs.pz_syntax.Classes.{ModelTree}
+use Rattle.pz_rules.specs.pz_syntax.declared.tokens.Pos.{Pos}
 use Rattle.pz_bind_levels.specs.Places.{Address}
-use Rattle.pz_bind.specs.Nest.{processes, class_at}
-use Rattle.pz_classes.specs.Soundness.{IsSound}
-use Rattle.pz_copy.specs.Parcels.{ParcelView}
-use Rattle.pz_offer.specs.declared.end.End.{End}
-use Rattle.pz_offer.specs.declared.trouble.Trouble.{Trouble}
-use Rattle.pz_offer.specs.PlaceOrder.{Place}
+use Rattle.pz_rules.specs.pz_bind_rules.Nest.{processes, class_at}
+use Rattle.pz_rules.specs.pz_classes_rules.Soundness.{IsSound}
+use Rattle.pz_rules.specs.pz_copy.Parcels.{ParcelView}
+use Rattle.pz_rules.specs.pz_offer.declared.end.End.{End}
+use Rattle.pz_rules.specs.pz_offer.declared.trouble.Trouble.{Trouble}
+use Rattle.pz_rules.specs.pz_offer.PlaceOrder.{Place}
 use Rattle.pz_rules.specs.contracts.limits.Limits as limits_row
 use Rattle.pz_rules.specs.declared.limits.Limits.{Limits}
 use Rattle.pz_rules.specs.declared.limits.Edition.TheVariants.{Two}
@@ -36,8 +36,8 @@ use Rattle.pz_sim_laws.specs.Deeds.{Manner}
 use Rattle.pz_sim_laws.specs.Laws.{MembersAct, ActionLeadsOn, MembersStay}
 use Rattle.pz_tree.specs.Deeds.{Answers}
 use Rattle.pz_tree.specs.Deeds.{Ability, CanDo, CanAct, CanSend, Leaves}
-use Rattle.pz_tree_standing.specs.Frames.{FramesStand, open_as}
-use Rattle.pz_tree_standing.specs.FrameCounts.{times}
+use Rattle.pz_tree.specs.pz_tree_standing.Frames.{FramesStand, open_as}
+use Rattle.pz_tree.specs.pz_tree_standing.FrameCounts.{times}
 use Rattle.pz_tree.specs.declared.tree.Tree.{Tree}
 use Rattle.pz_tree.specs.Acting.{answered}
 use Rattle.pz_tree.specs.Trees.{IsThere, IsFresh, at_in, term_in, process_in}

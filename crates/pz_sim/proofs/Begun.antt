@@ -8,9 +8,9 @@ use Rattle.std.proofs.Math.Nat.{ℕ_set}
 use Rattle.std.proofs.lemmas.List.{length-map, append-nil}
 use Rattle.std.proofs.lemmas.List.Elements.{All-nil, All-push}
 use Rattle.std.proofs.lemmas.Option.{slice_get-map, slice_get_within, slice_get-get_or}
-use Rattle.pz_syntax.specs.Classes.{ModelTree}
+use Rattle.pz_rules.specs.pz_syntax.Classes.{ModelTree}
 use Rattle.pz_bind_levels.specs.Places.{Address}
-use Rattle.pz_bind.specs.Nest.{processes, class_at}
+use Rattle.pz_rules.specs.pz_bind_rules.Nest.{processes, class_at}
 use Rattle.pz_bind.specs.NetView.{HasProcess}
 use Rattle.pz_bind.specs.devices.Nets.{IsNet, node_at}
 use Rattle.pz_bind.specs.declared.net.Net.{Net}
@@ -27,7 +27,7 @@ use Rattle.pz_tree.specs.pz_term_processes.Standing.{process_view, AreProcesses}
 use Rattle.pz_term_simulator.specs.Simulations as simulations
 use Rattle.pz_term_simulator.specs.Simulations.{Starts, stands}
 use Rattle.pz_sim_laws.specs.Members.{Member, process_of, config_of}
-use Rattle.pz_tree_standing.specs.Frames.{FramesStand, FramesStandAtStart}
+use Rattle.pz_tree.specs.pz_tree_standing.Frames.{FramesStand, FramesStandAtStart}
 use Rattle.pz_tree.specs.declared.tree.Tree.{Tree}
 use Rattle.pz_tree.specs.Trees.{at_in, term_in, process_in, IsFresh}
 use Rattle.pz_sim.specs.Members.{member_of, members_of}

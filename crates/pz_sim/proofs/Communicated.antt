@@ -3,8 +3,8 @@ use Rattle.std.proofs.Common.{◌≡◌, ◌<◌, ◌≤◌, ◌-◌, ℕ, zero,
 use Rattle.std.specs.Prelude.{slice_get, false}
 use Rattle.std.proofs.Math.Logic.{∥∥₁_elim, ∥∥₁_map}
 use Rattle.std.proofs.Math.Bool.{Bool-set}
-use Rattle.pz_classes.specs.Soundness.{IsSound}
-use Rattle.pz_offer.specs.declared.end.End.{End}
+use Rattle.pz_rules.specs.pz_classes_rules.Soundness.{IsSound}
+use Rattle.pz_rules.specs.pz_offer.declared.end.End.{End}
 use Rattle.pz_match.specs.declared.offers.Sender.{Sender}
 use Rattle.pz_match.specs.Pairs.{Judged, taken, offered}
 use Rattle.pz_match.specs.Table.{Table}

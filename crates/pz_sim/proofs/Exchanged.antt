@@ -6,11 +6,11 @@ use Rattle.std.proofs.lemmas.List.{set_comm}
 use Rattle.std.proofs.lemmas.Option.{same_Some, slice_get_within}
 use Rattle.std.specs.Coded.{le_prop}
 use Rattle.std.specs.declared.alloc.AllocError.{AllocError}
-use Rattle.pz_bind.specs.Nest.{class_at}
-use Rattle.pz_classes.specs.Soundness.{IsSound}
-use Rattle.pz_copy.specs.Parcels.{ParcelView}
-use Rattle.pz_offer.specs.declared.end.End.{End}
-use Rattle.pz_offer.specs.declared.trouble.Trouble.{Trouble}
+use Rattle.pz_rules.specs.pz_bind_rules.Nest.{class_at}
+use Rattle.pz_rules.specs.pz_classes_rules.Soundness.{IsSound}
+use Rattle.pz_rules.specs.pz_copy.Parcels.{ParcelView}
+use Rattle.pz_rules.specs.pz_offer.declared.end.End.{End}
+use Rattle.pz_rules.specs.pz_offer.declared.trouble.Trouble.{Trouble}
 use Rattle.pz_rules.specs.declared.action.Action.TheVariants.{Comm}
 use Rattle.pz_rules.specs.Terms.{Term}
 use Rattle.pz_rules.specs.Settings.{Setting, Process, Context}
@@ -24,7 +24,7 @@ use Rattle.pz_sim_laws.specs.Members.{Member, become, process_of, config_of}
 use Rattle.pz_sim_laws.specs.Deeds as deeds
 use Rattle.pz_sim_laws.specs.Laws.{MembersAct, CommunicationLeadsOn, SenderTroubleEnds, MembersStay}
 use Rattle.pz_tree.specs.Deeds.{CanSend, CanReceive, Leaves}
-use Rattle.pz_tree_regrowing.specs.Costs.{on_way}
+use Rattle.pz_tree.specs.pz_tree_regrowing.Costs.{on_way}
 use Rattle.pz_tree.specs.declared.tree.Tree.{Tree}
 use Rattle.pz_tree.specs.Trees.{IsFresh, at_in, term_in, process_in}
 use Rattle.pz_sim.specs.Costs.{ActsSoon}

@@ -6,11 +6,11 @@ use Rattle.std.specs.Coded.{le_prop}
 use Rattle.std.specs.declared.alloc.AllocError.{AllocError}
 use Rattle.std.proofs.lemmas.Option.{slice_get-get_or}
 use Rattle.std.proofs.lemmas.List.{length-map}
-use Rattle.pz_syntax.specs.Classes.{ModelTree}
-use Rattle.pz_bind.specs.Nest.{processes}
-use Rattle.pz_classes.specs.Soundness.{IsSound}
-use Rattle.pz_offer.specs.declared.end.End.{End}
-use Rattle.pz_offer.specs.declared.trouble.Trouble.{Trouble}
+use Rattle.pz_rules.specs.pz_syntax.Classes.{ModelTree}
+use Rattle.pz_rules.specs.pz_bind_rules.Nest.{processes}
+use Rattle.pz_rules.specs.pz_classes_rules.Soundness.{IsSound}
+use Rattle.pz_rules.specs.pz_offer.declared.end.End.{End}
+use Rattle.pz_rules.specs.pz_offer.declared.trouble.Trouble.{Trouble}
 use Rattle.pz_match.specs.Pairs.{Judged}
 use Rattle.pz_match.specs.Table.{Table}
 use Rattle.pz_rules.specs.declared.action.Action.{Action}

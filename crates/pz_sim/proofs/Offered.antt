@@ -3,12 +3,12 @@ use Rattle.std.proofs.Common.{◌≡◌, ℕ, suc, true, false, List, [], ◌∷
 use Rattle.std.specs.Prelude.{Contains, All}
 use Rattle.std.specs.List.{AllZip}
 use Rattle.std.proofs.lemmas.Bool.{true≢false}
-use Rattle.pz_syntax.specs.Classes.{ModelTree}
-use Rattle.pz_syntax.specs.declared.tokens.Pos.{Pos}
-use Rattle.pz_copy.specs.Parcels.{ParcelView}
-use Rattle.pz_offer.specs.declared.ends.SendOffer.{SendOffer}
-use Rattle.pz_offer.specs.declared.ends.ReceiveOffer.{ReceiveOffer}
-use Rattle.pz_offer.specs.PlaceOrder.{Place}
+use Rattle.pz_rules.specs.pz_syntax.Classes.{ModelTree}
+use Rattle.pz_rules.specs.pz_syntax.declared.tokens.Pos.{Pos}
+use Rattle.pz_rules.specs.pz_copy.Parcels.{ParcelView}
+use Rattle.pz_rules.specs.pz_offer.declared.ends.SendOffer.{SendOffer}
+use Rattle.pz_rules.specs.pz_offer.declared.ends.ReceiveOffer.{ReceiveOffer}
+use Rattle.pz_rules.specs.pz_offer.PlaceOrder.{Place}
 use Rattle.pz_rules.specs.Terms.{Term}
 use Rattle.pz_rules.specs.Settings.{Context}
 use Rattle.pz_rules.specs.Active as active
@@ -19,7 +19,7 @@ use Rattle.pz_rules.specs.Messages.{Receives, Judges}
 use Rattle.pz_rules.specs.devices.Walk as walk
 use Rattle.pz_rules.specs.devices.Walk.{Noted, active_sends, active_receives}
 use Rattle.pz_rules.specs.devices.Walks.{IsThere, ReceivesAreListed}
-use Rattle.pz_tree_nodes.specs.Listing.{Each}
+use Rattle.pz_tree.specs.pz_tree_nodes.Listing.{Each}
 use Rattle.pz_tree.specs.pz_tree_offering.Offers.{has_condition}
 use Rattle.pz_tree.specs.Asking as asking
 use Rattle.pz_sim_laws.specs.Offering as offering

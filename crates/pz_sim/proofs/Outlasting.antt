@@ -2,8 +2,8 @@
 use Rattle.std.proofs.Common.{◌≡◌, ◌≤◌, ◌<◌, ◌+◌, ◌⊎◌, inl, inr, ℕ, zero, suc, Bool, true, false, List, [], ◌∷◌, length, Some, refl, sym, subst, ap, ◌∙◌, arith}
 use Rattle.std.specs.Prelude.{slice_get, Contains}
 use Rattle.std.proofs.lemmas.Option.{same_Some, slice_get_within}
-use Rattle.pz_syntax.specs.Classes.{ModelTree}
-use Rattle.pz_classes.specs.Soundness.{IsSound}
+use Rattle.pz_rules.specs.pz_syntax.Classes.{ModelTree}
+use Rattle.pz_rules.specs.pz_classes_rules.Soundness.{IsSound}
 use Rattle.pz_match.specs.declared.offers.Sender.{Sender}
 use Rattle.pz_match.specs.declared.offers.Receiver.{Receiver}
 use Rattle.pz_match.specs.Pairs.{Judged}
@@ -16,7 +16,7 @@ use Rattle.pz_sim_laws.specs.Offering.{SendersOf, ReceiversOf}
 use Rattle.pz_sim_laws.specs.Couples.{answer, IsTruthful}
 use Rattle.pz_sim_laws.specs.Elapsing.{Elapsed}
 use Rattle.pz_sim_laws.specs.Laws.{ReceiversStand, SendsOutlast, ReceivesOutlast, VerdictsOutlast}
-use Rattle.pz_tree_standing.specs.Woken.{clocked}
+use Rattle.pz_tree.specs.pz_tree_standing.Woken.{clocked}
 use Rattle.pz_tree.specs.declared.tree.Tree.{Tree}
 use Rattle.pz_sim.specs.Costs.{names}
 use Rattle.pz_sim.specs.Members.{member_of}

@@ -4,8 +4,8 @@ use Rattle.std.specs.Prelude.{slice_get, All}
 use Rattle.std.proofs.lemmas.Bool.{cases_lt}
 use Rattle.std.proofs.lemmas.Option.{same_Some, slice_get_within, slice_get-get_or}
 use Rattle.std.proofs.lemmas.List.{length-map, length-set}
-use Rattle.pz_syntax.specs.Classes.{ModelTree}
-use Rattle.pz_classes.specs.Soundness.{IsSound}
+use Rattle.pz_rules.specs.pz_syntax.Classes.{ModelTree}
+use Rattle.pz_rules.specs.pz_classes_rules.Soundness.{IsSound}
 use Rattle.pz_rules.specs.declared.action.Action.{Action}
 use Rattle.pz_rules.specs.declared.action.Action.TheVariants.{Internal}
 use Rattle.pz_rules.specs.declared.action.Kind.TheVariants.{Skip}
@@ -19,8 +19,8 @@ use Rattle.pz_sim_laws.specs.Members.{Member, config_of, process_of}
 use Rattle.pz_sim_laws.specs.Deciding.{total_of}
 use Rattle.pz_sim_laws.specs.Elapsing.{Elapsed}
 use Rattle.pz_sim_laws.specs.Laws.{PassingLeadsOn, MembersPass}
-use Rattle.pz_tree_standing.specs.Frames.{FramesStand, FramesStandAsTimePasses}
-use Rattle.pz_tree_standing.specs.Steady.{later}
+use Rattle.pz_tree.specs.pz_tree_standing.Frames.{FramesStand, FramesStandAsTimePasses}
+use Rattle.pz_tree.specs.pz_tree_standing.Steady.{later}
 use Rattle.pz_tree.specs.declared.tree.Tree.{Tree}
 use Rattle.pz_tree.specs.Trees.{at_in, term_in, process_in, IsFresh}
 use Rattle.pz_sim.specs.Members.{member_of, members_of}

@@ -6,15 +6,15 @@ use Rattle.std.proofs.Math.Logic.{∥∥₁_elim, ∥∥₁_map, ∥∥₁_map�
 use Rattle.std.specs.Prelude.{slice_set}
 use Rattle.std.proofs.lemmas.Option.{same_Some, slice_get-get_or}
 use Rattle.std.proofs.lemmas.List.{map-set}
-use Rattle.pz_syntax.specs.Classes.{ModelTree}
-use Rattle.pz_offer.specs.contracts.trouble.Trouble as trouble_row
+use Rattle.pz_rules.specs.pz_syntax.Classes.{ModelTree}
+use Rattle.pz_rules.specs.pz_offer.contracts.trouble.Trouble as trouble_row
 use Rattle.pz_rules.specs.Delays.{Passes}
 use Rattle.pz_rules.specs.Leaving.{is_done}
 use Rattle.pz_sim_totals.specs.declared.total.Total.{Total}
 use Rattle.pz_sim_totals.specs.contracts.total.Total as total_row
 use Rattle.pz_sim_laws.specs.Deciding.{unfinished}
-use Rattle.pz_tree_standing.specs.Steady.{later}
-use Rattle.pz_tree_standing.specs.Summaries.{summary_of}
+use Rattle.pz_tree.specs.pz_tree_standing.Steady.{later}
+use Rattle.pz_tree.specs.pz_tree_standing.Summaries.{summary_of}
 use Rattle.pz_tree.specs.declared.tree.Tree.{Tree}
 use Rattle.pz_tree.specs.Trees.{at_in, term_in, IsFresh}
 use Rattle.pz_sim.specs.Costs.{visited, visited_all}

@@ -5,19 +5,19 @@ use Rattle.std.proofs.Math.Logic.{∥∥₁_elim, ∥∥₁_map}
 use Rattle.std.proofs.lemmas.Option.{slice_get_within, get_or_from_slice_get}
 use Rattle.std.proofs.lemmas.List.{length-map}
 use Rattle.std.specs.Coded.{le_prop}
-use Rattle.pz_syntax.specs.Classes.{ModelTree}
+use Rattle.pz_rules.specs.pz_syntax.Classes.{ModelTree}
 use Rattle.pz_match.specs.Table.{Table}
-use Rattle.pz_offer.specs.declared.end.End.{End}
-use Rattle.pz_offer.specs.declared.trouble.Trouble.{Trouble}
+use Rattle.pz_rules.specs.pz_offer.declared.end.End.{End}
+use Rattle.pz_rules.specs.pz_offer.declared.trouble.Trouble.{Trouble}
 use Rattle.pz_rules.specs.declared.action.Action.{Action}
 use Rattle.pz_rules.specs.Settings.{Setting}
 use Rattle.pz_rules.specs.Terms.{done}
 use Rattle.pz_rules.specs.Steps.{Next}
 use Rattle.pz_sim_totals.specs.declared.total.Total.{Total}
 use Rattle.pz_sim_laws.specs.Members.{Member, config_of}
-use Rattle.pz_offer.specs.declared.summary.Summary.{Summary}
+use Rattle.pz_rules.specs.pz_offer.declared.summary.Summary.{Summary}
 use Rattle.pz_rules.specs.Leaving.{is_done}
-use Rattle.pz_tree_standing.specs.Summaries.{summary_of}
+use Rattle.pz_tree.specs.pz_tree_standing.Summaries.{summary_of}
 use Rattle.pz_sim_laws.specs.Deciding.{total_of, unfinished}
 use Rattle.pz_tree.specs.Deeds.{Ability}
 use Rattle.pz_tree.specs.declared.tree.Tree.{Tree}

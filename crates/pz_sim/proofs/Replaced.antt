@@ -4,7 +4,7 @@ use Rattle.std.specs.Prelude.{slice_get, All}
 use Rattle.std.proofs.lemmas.Option.{same_Some, slice_get_within, get_or_from_slice_get}
 use Rattle.std.proofs.lemmas.List.{map-set, set-set, set_comm}
 use Rattle.std.proofs.lemmas.List.Elements.{All-set}
-use Rattle.pz_syntax.specs.Classes.{ModelTree}
+use Rattle.pz_rules.specs.pz_syntax.Classes.{ModelTree}
 use Rattle.pz_rules.specs.Terms.{done}
 use Rattle.pz_rules.specs.Settings.{Setting}
 use Rattle.pz_sim_laws.specs.Members.{Member, become, AreMembers}
@@ -12,7 +12,7 @@ use Rattle.pz_sim_laws.specs.Deciding.{total_of}
 use Rattle.pz_sim_laws.specs.Laws.{MembersStay}
 use Rattle.pz_tree.specs.declared.tree.Tree.{Tree}
 use Rattle.pz_tree.specs.Trees.{IsFresh, term_in, process_in}
-use Rattle.pz_tree_standing.specs.Frames.{FramesStand}
+use Rattle.pz_tree.specs.pz_tree_standing.Frames.{FramesStand}
 use Rattle.pz_sim.specs.Members.{member_of, members_of}
 use Rattle.pz_sim.specs.devices.Holding.{AreTrees}
 use Rattle.pz_sim.specs.devices.Tables.{hushed, IsHeard, AreHeard}
@@ -47,12 +47,12 @@ module _ (m : ModelTree) where
   pub totals_replaced : (clock : ℕ) (ts : List Tree) (i : ℕ) (u : Tree) → map (total_of clock) (members_of m (set ts i u)) ≡ set (map (total_of clock) (members_of m ts)) i (total_of clock (member_of m u))
   totals_replaced clock ts i u = ap (map (total_of clock)) (members_replaced ts i u) ∙ map-set (total_of clock) (members_of m ts) i (member_of m u)
 
-  -- two that were silent meanwhile, of which the second speaks first
-  pub both_spoken : (ts : List Tree) (i j : ℕ) (h k : Member) (u v : Tree) → i ≢ j
-      → set (set (set (set (members_of m ts) i h) j k) j (member_of m v)) i (member_of m u) ≡ members_of m (set (set ts j v) i u)
-  both_spoken ts i j h k u v apart =
+  -- two that have acted, of which the first was silent meanwhile and the second speaks first
+  pub both_spoken : (ts : List Tree) (i j : ℕ) (h : Member) (u v : Tree) → i ≢ j
+      → set (set (set (members_of m ts) i h) j (member_of m v)) i (member_of m u) ≡ members_of m (set (set ts j v) i u)
+  both_spoken ts i j h u v apart =
       let ms = members_of m ts in
-      ap (λ (xs : List Member). set xs i (member_of m u)) (set-set (set ms i h) j k (member_of m v) ∙ set_comm ms i j h (member_of m v) apart)
+      ap (λ (xs : List Member). set xs i (member_of m u)) (set_comm ms i j h (member_of m v) apart)
       ∙ set-set (set ms j (member_of m v)) i h (member_of m u)
       ∙ ap (λ (xs : List Member). set xs i (member_of m u)) (sym (members_replaced ts j v))
       ∙ sym (members_replaced (set ts j v) i u)

@@ -6,7 +6,7 @@ use Rattle.std.proofs.Math.Logic.{∥∥₁_elim, ∥∥₁_map₂}
 use Rattle.std.proofs.lemmas.Bool.{cases_lt}
 use Rattle.std.proofs.lemmas.Option.{same_Some, slice_get_within}
 use Rattle.std.proofs.lemmas.List.{length-set, length-map}
-use Rattle.pz_syntax.specs.Classes.{ModelTree}
+use Rattle.pz_rules.specs.pz_syntax.Classes.{ModelTree}
 use Rattle.pz_bind.specs.declared.net.Net.{Net}
 use Rattle.pz_bind.specs.devices.Nets.{IsNet}
 use Rattle.pz_match.specs.Pairs.{questions, touches}

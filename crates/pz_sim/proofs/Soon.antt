@@ -4,12 +4,12 @@ use Rattle.std.specs.Prelude.{slice_get, IfOk, OnOk, ⊤}
 use Rattle.std.specs.declared.alloc.AllocError.{AllocError}
 use Rattle.std.proofs.Math.Logic.{∥∥₁_elim, ∥∥₁_map}
 use Rattle.std.proofs.lemmas.Option.{get_or_from_slice_get, slice_get_within}
-use Rattle.pz_syntax.specs.Classes.{ModelTree}
-use Rattle.pz_syntax.specs.declared.tokens.Pos.{Pos}
-use Rattle.pz_copy.specs.Parcels.{ParcelView}
-use Rattle.pz_offer.specs.declared.end.End.{End}
-use Rattle.pz_offer.specs.declared.trouble.Trouble.{Trouble}
-use Rattle.pz_offer.specs.PlaceOrder.{Place}
+use Rattle.pz_rules.specs.pz_syntax.Classes.{ModelTree}
+use Rattle.pz_rules.specs.pz_syntax.declared.tokens.Pos.{Pos}
+use Rattle.pz_rules.specs.pz_copy.Parcels.{ParcelView}
+use Rattle.pz_rules.specs.pz_offer.declared.end.End.{End}
+use Rattle.pz_rules.specs.pz_offer.declared.trouble.Trouble.{Trouble}
+use Rattle.pz_rules.specs.pz_offer.PlaceOrder.{Place}
 use Rattle.pz_rules.specs.declared.action.Action.{Action}
 use Rattle.pz_rules.specs.declared.action.Action.TheVariants.{Internal, Comm}
 use Rattle.pz_rules.specs.declared.action.Kind.{Kind}
@@ -20,7 +20,7 @@ use Rattle.pz_rules.specs.Messages.{Hands, Takes}
 use Rattle.pz_rules.specs.Settings.{Setting, Process, home_of}
 use Rattle.pz_rules.specs.Steps.{Deed}
 use Rattle.pz_rules.specs.Terms.{Term}
-use Rattle.pz_tree_regrowing.specs.Costs.{on_way, made_all, dropped_all}
+use Rattle.pz_tree.specs.pz_tree_regrowing.Costs.{on_way, made_all, dropped_all}
 use Rattle.pz_tree.specs.Acting.{LeavesSoon}
 use Rattle.pz_tree.specs.Deeds.{CanAct, Leaves}
 use Rattle.pz_tree.specs.declared.tree.Tree.{Tree}

@@ -1,4 +1,4 @@
--- Two processes have acted, while they were silent in the table, and are told of anew, one after the other.
+-- Two processes have acted, of which the sender was silent in the table, and are told of anew, one after the other.
 use Rattle.std.proofs.Common.{◌≡◌, ◌≢◌, ◌≤◌, ◌<◌, ◌+◌, ℕ, Bool, true, not, List, map, set, length, Some, refl, sym, subst, ap, ◌∙◌, arith}
 use Rattle.std.specs.Prelude.{slice_get, filter}
 use Rattle.std.proofs.Math.Nat.{ℕ_set}
@@ -35,7 +35,7 @@ module _ (setting : Setting) (clock : ℕ) (ts : List Tree) (totals : List Total
   abbrev ms : List Member
   ms = members_of setting.model ts
 
-  -- the first is silent, then both are
+  -- the sender is silent; as if both were
 
   abbrev pub one_silent : List Member
   one_silent = set ms i (hushed (member_of setting.model s))
@@ -49,26 +49,11 @@ module _ (setting : Setting) (clock : ℕ) (ts : List Tree) (totals : List Total
   pub sender_quiet : slice_get one_silent i ≡ Some (hushed (member_of setting.model s))
   sender_quiet = let within = slice_get_within ts i s s_is in let all = many in got_set ms i (hushed (member_of setting.model s)) (omega (arith, within, all))
 
-  pub receiver_quiet : slice_get both_silent j ≡ Some (hushed (member_of setting.model r))
-  receiver_quiet =
-      let within = slice_get_within ts j r r_is in
-      let same = length-set ms i (hushed (member_of setting.model s)) in
-      let all = many in
-      got_set one_silent j (hushed (member_of setting.model r)) (omega (arith, within, same, all))
-
   pub heard_one : AreHeard setting.model clock ts one_silent
   heard_one = heard_silent setting.model clock ts ms i (member_of setting.model s) (heard_told setting clock ts totals table told)
 
   pub second_there : slice_get one_silent j ≡ Some (member_of setting.model r)
   second_there = set_other ms i j (hushed (member_of setting.model s)) apart ∙ got_mapped (member_of setting.model) ts j r r_is
-
-  pub second_can : (silent : Table) → IsTable one_silent silent → CanBeSilent j silent
-  second_can silent is =
-      let within = slice_get_within ts j r r_is in
-      let same = length-set ms i (hushed (member_of setting.model s)) in
-      let rows = is.senders.all in
-      let all = many in
-      record { there = is.there; within = omega (arith, within, same, rows, all) }
 
   heard_both : AreHeard setting.model clock ts both_silent
   heard_both = heard_silent setting.model clock ts one_silent j (member_of setting.model r) heard_one
@@ -84,6 +69,10 @@ module _ (setting : Setting) (clock : ℕ) (ts : List Tree) (totals : List Total
         subst (λ (vs : List Tree). AreHeard m clock vs both_silent) (sym now)
         (subst (AreHeard m clock (set (set ts j v) i u)) swapped
         (heard_behind m clock (set ts j v) (set ms j (hushed (member_of m r))) i (member_of m s) u (subst (AreHeard m clock (set ts j v)) (sym swapped) first)))
+
+    -- each but the receiver, of which the table has what it offered before
+    pub heard_others : AreHeardBut setting.model clock us j one_silent
+    heard_others k h other there = heard_now k h (set_other one_silent j k (hushed (member_of setting.model r)) other ∙ there)
 
     pub receiver_now : slice_get us j ≡ Some v
     receiver_now =
@@ -109,13 +98,13 @@ module _ (setting : Setting) (clock : ℕ) (ts : List Tree) (totals : List Total
     sender_clock = all_at (λ (x : Tree). x.clock ≡ clock) us i u after.clocks sender_now
 
     -- the receiver speaks, while the sender is silent
-    pub receiver_tells : (silent : Table) → IsTable both_silent silent → CanTell setting.model clock us silent j
+    pub receiver_tells : (silent : Table) → IsTable one_silent silent → CanTell setting.model clock us silent j
     receiver_tells silent is = record {
-      members = both_silent;
+      members = one_silent;
       table = is;
-      heard = heard_but setting.model clock us both_silent j heard_now;
-      before = hushed (member_of setting.model r);
-      is_before = receiver_quiet;
+      heard = heard_others;
+      before = member_of setting.model r;
+      is_before = second_there;
       tree = v;
       is = receiver_now;
       fresh = receiver_fresh;
@@ -124,15 +113,15 @@ module _ (setting : Setting) (clock : ℕ) (ts : List Tree) (totals : List Total
     }
 
     abbrev pub one_speaks : List Member
-    one_speaks = set both_silent j (member_of setting.model v)
+    one_speaks = set one_silent j (member_of setting.model v)
 
     pub heard_again : AreHeard setting.model clock us one_speaks
-    heard_again = heard_more setting.model clock us both_silent j v receiver_now receiver_fresh receiver_clock (heard_but setting.model clock us both_silent j heard_now)
+    heard_again = heard_more setting.model clock us one_silent j v receiver_now receiver_fresh receiver_clock heard_others
 
     pub still_quiet : slice_get one_speaks i ≡ Some (hushed (member_of setting.model s))
     still_quiet =
         let other : j ≢ i = λ e. apart (sym e) in
-        set_other both_silent j i (member_of setting.model v) other ∙ set_other one_silent j i (hushed (member_of setting.model r)) other ∙ sender_quiet
+        set_other one_silent j i (member_of setting.model v) other ∙ sender_quiet
 
     -- then the sender does
     pub sender_tells : (spoken : Table) → IsTable one_speaks spoken → CanTell setting.model clock us spoken i
@@ -161,10 +150,10 @@ module _ (setting : Setting) (clock : ℕ) (ts : List Tree) (totals : List Total
               (first ∙ ap (λ (xs : List Total). set xs j (total_of clock (member_of m v))) told.are_totals ∙ sym (totals_replaced m clock ts j v))
               ∙ sym (totals_replaced m clock (set ts j v) i u) ∙ ap (λ (vs : List Tree). map (total_of clock) (members_of m vs)) (sym now);
           is_table = subst (λ (hs : List Member). IsTable hs table2)
-              (both_spoken m ts i j (hushed (member_of m s)) (hushed (member_of m r)) u v apart ∙ ap (members_of m) (sym now)) is;
+              (both_spoken m ts i j (hushed (member_of m s)) u v apart ∙ ap (members_of m) (sym now)) is;
         }
 
--- What the calls in turn say: both are silent, both act, the receiver speaks, and then the sender.
+-- What the calls in turn say: the sender is silent, both act, the receiver speaks, and then the sender.
 
 module _ (setting : Setting) (clock : ℕ) (ts : List Tree) (totals : List Total) (table : Table) (told : ∥ AreTold setting clock ts totals table ∥₁) (i j : ℕ) (apart : i ≢ j)
     (i_within : i < length ts) (j_within : j < length ts) where
@@ -184,98 +173,81 @@ module _ (setting : Setting) (clock : ℕ) (ts : List Tree) (totals : List Total
     table_one : (k : AreTold setting clock ts totals table) → IsTable (one_silent setting clock ts totals table k i j apart s r (one_there i i_within).1 (one_there j j_within).1) table1
     table_one k = hushes (members_of setting.model ts) (member_of setting.model s) (got_mapped (member_of setting.model) ts i s (one_there i i_within).1) (heard_told setting clock ts totals table k) k.is_table
 
-    -- as long as they are silent nothing is asked
+    -- as long as it is silent nothing is asked
     pub first_free : length (questions i table1.pairs) ≡ 0
     first_free = ∥∥₁_elim told (ℕ_set (length (questions i table1.pairs)) 0) (λ k.
         let s_is = (one_there i i_within).1 in
         let r_is = (one_there j j_within).1 in
         asks_nothing (one_silent setting clock ts totals table k i j apart s r s_is r_is) table1 (table_one k) i (hushed (member_of setting.model s)) (sender_quiet setting clock ts totals table k i j apart s r s_is r_is) refl)
 
-    pub second_silent : ∥ CanBeSilent j table1 ∥₁
-    second_silent = ∥∥₁_map told (λ k. second_can setting clock ts totals table k i j apart s r (one_there i i_within).1 (one_there j j_within).1 table1 (table_one k))
+    module _ (ts2 us : List Tree) (same2 : ts2 ≡ ts) (others : (u v : Tree) × (us ≡ set (set ts2 j v) i u)) (after : ∥ AreTrees setting clock us ∥₁) where
+      now : us ≡ set (set ts j others.1) i others.0
+      now = others.2 ∙ ap (λ (vs : List Tree). set (set vs j others.1) i others.0) same2
 
-    module _ (ts1 : List Tree) (same1 : ts1 ≡ ts) (table2 : Table) (hushes2 : Hushes setting.model clock ts1 j table1 table2) where
-      table_two : (k : AreTold setting clock ts totals table) → IsTable (both_silent setting clock ts totals table k i j apart s r (one_there i i_within).1 (one_there j j_within).1) table2
-      table_two k =
-          let s_is = (one_there i i_within).1 in
-          let r_is = (one_there j j_within).1 in
-          hushes2 (one_silent setting clock ts totals table k i j apart s r s_is r_is) (member_of setting.model r) (second_there setting clock ts totals table k i j apart s r s_is r_is)
-          (subst (λ (vs : List Tree). AreHeard setting.model clock vs (one_silent setting clock ts totals table k i j apart s r s_is r_is)) (sym same1) (heard_one setting clock ts totals table k i j apart s r s_is r_is)) (table_one k)
+      pub receiver_speaks : ∥ CanTell setting.model clock us table1 j ∥₁
+      receiver_speaks = ∥∥₁_elim told squash₁ (λ k. ∥∥₁_map after (λ w.
+          receiver_tells setting clock ts totals table k i j apart s r (one_there i i_within).1 (one_there j j_within).1 others.0 others.1 us now w table1 (table_one k)))
 
-      pub second_free : length (questions j table2.pairs) ≡ 0
-      second_free = ∥∥₁_elim told (ℕ_set (length (questions j table2.pairs)) 0) (λ k.
-          let s_is = (one_there i i_within).1 in
-          let r_is = (one_there j j_within).1 in
-          asks_nothing (both_silent setting clock ts totals table k i j apart s r s_is r_is) table2 (table_two k) j (hushed (member_of setting.model r)) (receiver_quiet setting clock ts totals table k i j apart s r s_is r_is) refl)
+      pub receiver_within : j < length totals
+      receiver_within = ∥∥₁_elim told le_prop (λ k. totals_within setting clock ts totals table k j j_within)
 
-      module _ (ts2 us : List Tree) (same2 : ts2 ≡ ts) (others : (u v : Tree) × (us ≡ set (set ts2 j v) i u)) (after : ∥ AreTrees setting clock us ∥₁) where
-        now : us ≡ set (set ts j others.1) i others.0
-        now = others.2 ∙ ap (λ (vs : List Tree). set (set vs j others.1) i others.0) same2
+      module _ (totals1 : List Total) (table2 : Table) (speaks : ∥ Speaks setting.model clock us j table1 table2 ∥₁) (counts : Counts setting.model clock us j totals totals1) where
+        table_two : (k : AreTold setting clock ts totals table) (w : AreTrees setting clock us) → Speaks setting.model clock us j table1 table2
+            → IsTable (one_speaks setting clock ts totals table k i j apart s r (one_there i i_within).1 (one_there j j_within).1 others.0 others.1 us now w) table2
+        table_two k w says =
+            let s_is = (one_there i i_within).1 in
+            let r_is = (one_there j j_within).1 in
+            says (one_silent setting clock ts totals table k i j apart s r s_is r_is) others.1 (receiver_now setting clock ts totals table k i j apart s r s_is r_is others.0 others.1 us now w)
+            (heard_others setting clock ts totals table k i j apart s r s_is r_is others.0 others.1 us now w) (table_one k)
+            (receiver_tells setting clock ts totals table k i j apart s r s_is r_is others.0 others.1 us now w table1 (table_one k))
 
-        pub receiver_speaks : ∥ CanTell setting.model clock us table2 j ∥₁
-        receiver_speaks = ∥∥₁_elim told squash₁ (λ k. ∥∥₁_map after (λ w.
-            receiver_tells setting clock ts totals table k i j apart s r (one_there i i_within).1 (one_there j j_within).1 others.0 others.1 us now w table2 (table_two k)))
+        totals_one : (k : AreTold setting clock ts totals table) (w : AreTrees setting clock us) → totals1 ≡ set totals j (total_of clock (member_of setting.model others.1))
+        totals_one k w =
+            let s_is = (one_there i i_within).1 in
+            let r_is = (one_there j j_within).1 in
+            counts others.1 (receiver_now setting clock ts totals table k i j apart s r s_is r_is others.0 others.1 us now w)
+            (receiver_fresh setting clock ts totals table k i j apart s r s_is r_is others.0 others.1 us now w) (receiver_clock setting clock ts totals table k i j apart s r s_is r_is others.0 others.1 us now w)
 
-        pub receiver_within : j < length totals
-        receiver_within = ∥∥₁_elim told le_prop (λ k. totals_within setting clock ts totals table k j j_within)
+        -- then each is asked about at most once
+        pub asks_both : (among : ℕ → Bool) → among i ≡ true → among j ≡ true → (table3 : Table) → filter (λ p. not (touches i p)) table3.pairs ≡ filter (λ p. not (touches i p)) table2.pairs
+            → length (questions j table2.pairs) + length (questions i table3.pairs) ≤ length (with_end_in among table3.pairs)
+        asks_both among i_is j_is table3 same =
+            ∥∥₁_elim told le_prop (λ k. ∥∥₁_elim after le_prop (λ w. ∥∥₁_elim speaks le_prop (λ says.
+            let s_is = (one_there i i_within).1 in
+            let r_is = (one_there j j_within).1 in
+            let apart_is = untouched (one_speaks setting clock ts totals table k i j apart s r s_is r_is others.0 others.1 us now w) table2 (table_two k w says) i (hushed (member_of setting.model s))
+            (still_quiet setting clock ts totals table k i j apart s r s_is r_is others.0 others.1 us now w) refl in
+            let first = asks_few among j j_is table2.pairs in
+            let second = asks_more among i i_is table2.pairs table3.pairs apart_is same in
+            omega (arith, first, second))))
 
-        module _ (totals1 : List Total) (table3 : Table) (speaks : ∥ Speaks setting.model clock us j table2 table3 ∥₁) (counts : Counts setting.model clock us j totals totals1) where
-          table_three : (k : AreTold setting clock ts totals table) (w : AreTrees setting clock us) → Speaks setting.model clock us j table2 table3
-              → IsTable (one_speaks setting clock ts totals table k i j apart s r (one_there i i_within).1 (one_there j j_within).1 others.0 others.1 us now w) table3
-          table_three k w says =
+        module _ (us1 : List Tree) (stay1 : us1 ≡ us) where
+          pub sender_speaks : ∥ CanTell setting.model clock us1 table2 i ∥₁
+          sender_speaks =
+              subst (λ (vs : List Tree). ∥ CanTell setting.model clock vs table2 i ∥₁) (sym stay1)
+              (∥∥₁_elim told squash₁ (λ k. ∥∥₁_elim speaks squash₁ (λ says. ∥∥₁_map after (λ w.
+              sender_tells setting clock ts totals table k i j apart s r (one_there i i_within).1 (one_there j j_within).1 others.0 others.1 us now w table2 (table_two k w says)))))
+
+          pub sender_within : i < length totals1
+          sender_within = ∥∥₁_elim told le_prop (λ k. ∥∥₁_elim after le_prop (λ w.
+              let within = totals_within setting clock ts totals table k i i_within in
+              let same = ap (λ (xs : List Total). length xs) (totals_one k w) in
+              let kept = length-set totals j (total_of clock (member_of setting.model others.1)) in
+              omega (arith, within, same, kept)))
+
+          pub both_told : (us2 : List Tree) (totals2 : List Total) (table3 : Table) → us2 ≡ us1 → ∥ Speaks setting.model clock us1 i table2 table3 ∥₁ → Counts setting.model clock us1 i totals1 totals2
+              → ∥ AreTold setting clock us2 totals2 table3 ∥₁
+          both_told us2 totals2 table3 stay2 speaks2 counts2 =
+              ∥∥₁_elim told squash₁ (λ k. ∥∥₁_elim after squash₁ (λ w. ∥∥₁_elim speaks squash₁ (λ says. ∥∥₁_map speaks2 (λ says2.
               let s_is = (one_there i i_within).1 in
               let r_is = (one_there j j_within).1 in
-              says (both_silent setting clock ts totals table k i j apart s r s_is r_is) others.1 (receiver_now setting clock ts totals table k i j apart s r s_is r_is others.0 others.1 us now w)
-              (heard_but setting.model clock us (both_silent setting clock ts totals table k i j apart s r s_is r_is) j (heard_now setting clock ts totals table k i j apart s r s_is r_is others.0 others.1 us now w)) (table_two k)
-              (receiver_tells setting clock ts totals table k i j apart s r s_is r_is others.0 others.1 us now w table2 (table_two k))
-
-          totals_one : (k : AreTold setting clock ts totals table) (w : AreTrees setting clock us) → totals1 ≡ set totals j (total_of clock (member_of setting.model others.1))
-          totals_one k w =
-              let s_is = (one_there i i_within).1 in
-              let r_is = (one_there j j_within).1 in
-              counts others.1 (receiver_now setting clock ts totals table k i j apart s r s_is r_is others.0 others.1 us now w)
-              (receiver_fresh setting clock ts totals table k i j apart s r s_is r_is others.0 others.1 us now w) (receiver_clock setting clock ts totals table k i j apart s r s_is r_is others.0 others.1 us now w)
-
-          -- then each is asked about at most once
-          pub asks_both : (among : ℕ → Bool) → among i ≡ true → among j ≡ true → (table4 : Table) → filter (λ p. not (touches i p)) table4.pairs ≡ filter (λ p. not (touches i p)) table3.pairs
-              → length (questions j table3.pairs) + length (questions i table4.pairs) ≤ length (with_end_in among table4.pairs)
-          asks_both among i_is j_is table4 same =
-              ∥∥₁_elim told le_prop (λ k. ∥∥₁_elim after le_prop (λ w. ∥∥₁_elim speaks le_prop (λ says.
-              let s_is = (one_there i i_within).1 in
-              let r_is = (one_there j j_within).1 in
-              let apart_is = untouched (one_speaks setting clock ts totals table k i j apart s r s_is r_is others.0 others.1 us now w) table3 (table_three k w says) i (hushed (member_of setting.model s))
-              (still_quiet setting clock ts totals table k i j apart s r s_is r_is others.0 others.1 us now w) refl in
-              let first = asks_few among j j_is table3.pairs in
-              let second = asks_more among i i_is table3.pairs table4.pairs apart_is same in
-              omega (arith, first, second))))
-
-          module _ (us1 : List Tree) (stay1 : us1 ≡ us) where
-            pub sender_speaks : ∥ CanTell setting.model clock us1 table3 i ∥₁
-            sender_speaks =
-                subst (λ (vs : List Tree). ∥ CanTell setting.model clock vs table3 i ∥₁) (sym stay1)
-                (∥∥₁_elim told squash₁ (λ k. ∥∥₁_elim speaks squash₁ (λ says. ∥∥₁_map after (λ w.
-                sender_tells setting clock ts totals table k i j apart s r (one_there i i_within).1 (one_there j j_within).1 others.0 others.1 us now w table3 (table_three k w says)))))
-
-            pub sender_within : i < length totals1
-            sender_within = ∥∥₁_elim told le_prop (λ k. ∥∥₁_elim after le_prop (λ w.
-                let within = totals_within setting clock ts totals table k i i_within in
-                let same = ap (λ (xs : List Total). length xs) (totals_one k w) in
-                let kept = length-set totals j (total_of clock (member_of setting.model others.1)) in
-                omega (arith, within, same, kept)))
-
-            pub both_told : (us2 : List Tree) (totals2 : List Total) (table4 : Table) → us2 ≡ us1 → ∥ Speaks setting.model clock us1 i table3 table4 ∥₁ → Counts setting.model clock us1 i totals1 totals2
-                → ∥ AreTold setting clock us2 totals2 table4 ∥₁
-            both_told us2 totals2 table4 stay2 speaks2 counts2 =
-                ∥∥₁_elim told squash₁ (λ k. ∥∥₁_elim after squash₁ (λ w. ∥∥₁_elim speaks squash₁ (λ says. ∥∥₁_map speaks2 (λ says2.
-                let s_is = (one_there i i_within).1 in
-                let r_is = (one_there j j_within).1 in
-                let u = others.0 in
-                let there : slice_get us1 i ≡ Some u = ap (λ (vs : List Tree). slice_get vs i) stay1 ∙ sender_now setting clock ts totals table k i j apart s r s_is r_is u others.1 us now w in
-                let back = λ (Z : List Tree → Type 0) (z : Z us). subst Z (sym stay1) z in
-                let hs = one_speaks setting clock ts totals table k i j apart s r s_is r_is u others.1 us now w in
-                subst (λ (vs : List Tree). AreTold setting clock vs totals2 table4) (sym (stay2 ∙ stay1))
-                (told_both setting clock ts totals table k i j apart s r s_is r_is u others.1 us now w totals1 totals2 table4
-                (says2 hs u there (back (λ vs. AreHeardBut setting.model clock vs i hs) (heard_but setting.model clock us hs i (heard_again setting clock ts totals table k i j apart s r s_is r_is u others.1 us now w))) (table_three k w says)
-                (back (λ vs. CanTell setting.model clock vs table3 i) (sender_tells setting clock ts totals table k i j apart s r s_is r_is u others.1 us now w table3 (table_three k w says))))
-                (totals_one k w)
-                (counts2 u there (sender_fresh setting clock ts totals table k i j apart s r s_is r_is u others.1 us now w) (sender_clock setting clock ts totals table k i j apart s r s_is r_is u others.1 us now w)))))))
+              let u = others.0 in
+              let there : slice_get us1 i ≡ Some u = ap (λ (vs : List Tree). slice_get vs i) stay1 ∙ sender_now setting clock ts totals table k i j apart s r s_is r_is u others.1 us now w in
+              let back = λ (Z : List Tree → Type 0) (z : Z us). subst Z (sym stay1) z in
+              let hs = one_speaks setting clock ts totals table k i j apart s r s_is r_is u others.1 us now w in
+              subst (λ (vs : List Tree). AreTold setting clock vs totals2 table3) (sym (stay2 ∙ stay1))
+              (told_both setting clock ts totals table k i j apart s r s_is r_is u others.1 us now w totals1 totals2 table3
+              (says2 hs u there (back (λ vs. AreHeardBut setting.model clock vs i hs) (heard_but setting.model clock us hs i (heard_again setting clock ts totals table k i j apart s r s_is r_is u others.1 us now w))) (table_two k w says)
+              (back (λ vs. CanTell setting.model clock vs table2 i) (sender_tells setting clock ts totals table k i j apart s r s_is r_is u others.1 us now w table2 (table_two k w says))))
+              (totals_one k w)
+              (counts2 u there (sender_fresh setting clock ts totals table k i j apart s r s_is r_is u others.1 us now w) (sender_clock setting clock ts totals table k i j apart s r s_is r_is u others.1 us now w)))))))

@@ -4,9 +4,9 @@ use Rattle.std.proofs.Math.Logic.{∥∥₁_elim, ∥∥₁_map}
 use Rattle.std.specs.Coded.{le_prop}
 use Rattle.std.proofs.lemmas.Option.{same_Some, slice_get_within, slice_get-get_or}
 use Rattle.std.proofs.lemmas.List.{set-get_or}
-use Rattle.pz_syntax.specs.Classes.{ModelTree}
-use Rattle.pz_offer.specs.declared.ends.SendOffer.{SendOffer}
-use Rattle.pz_offer.specs.declared.ends.ReceiveOffer.{ReceiveOffer}
+use Rattle.pz_rules.specs.pz_syntax.Classes.{ModelTree}
+use Rattle.pz_rules.specs.pz_offer.declared.ends.SendOffer.{SendOffer}
+use Rattle.pz_rules.specs.pz_offer.declared.ends.ReceiveOffer.{ReceiveOffer}
 use Rattle.pz_match.specs.Table.{Table}
 use Rattle.pz_rules.specs.Fitting.{TermFits}
 use Rattle.pz_rules.specs.devices.Walks.{ReceivesAreListed}

@@ -8,9 +8,9 @@ use Rattle.std.proofs.Math.Bool.{Bool-set}
 use Rattle.std.proofs.lemmas.Option.{slice_get-get_or}
 use Rattle.std.specs.Option.{option_map_or}
 use Rattle.std.proofs.lemmas.List.{length-map}
-use Rattle.pz_syntax.specs.Classes.{ModelTree}
-use Rattle.pz_classes.specs.Soundness.{IsSound}
-use Rattle.pz_bind.specs.Nest.{processes}
+use Rattle.pz_rules.specs.pz_syntax.Classes.{ModelTree}
+use Rattle.pz_rules.specs.pz_classes_rules.Soundness.{IsSound}
+use Rattle.pz_rules.specs.pz_bind_rules.Nest.{processes}
 use Rattle.pz_bind.specs.declared.net.Net.{Net}
 use Rattle.pz_bind.specs.devices.Nets.{IsNet}
 use Rattle.pz_match.specs.Table.{Table}
@@ -25,7 +25,7 @@ use Rattle.pz_sim_totals.specs.Sums as sums
 use Rattle.pz_sim_laws.specs.Members.{config_of}
 use Rattle.pz_sim_laws.specs.Deciding.{total_of, decided}
 use Rattle.pz_sim_laws.specs.Laws.{PassingLeadsOn, MembersPass, SendsOutlast, ReceivesOutlast, VerdictsOutlast, ReceiversStand, PairsAreCouples}
-use Rattle.pz_tree_standing.specs.Soon.{HasRoom}
+use Rattle.pz_tree.specs.pz_tree_standing.Soon.{HasRoom}
 use Rattle.pz_tree.specs.declared.tree.Tree.{Tree}
 use Rattle.pz_tree.specs.Trees.{IsFresh}
 use Rattle.pz_sim.specs.Costs.{visited_all, names, names_at, with_end_in, PassesSoon}
@@ -34,7 +34,7 @@ use Rattle.pz_sim.specs.devices.Holding.{AreTrees, AreKept}
 use Rattle.pz_sim.specs.devices.Passing.{AreSilenced, MayPass, HavePassed, own_total, AreRetold}
 use Rattle.pz_sim.specs.devices.Speaking.{CanBeAsked}
 use Rattle.pz_sim.specs.devices.Tables.{IsTable}
-use Rattle.pz_tree_standing.specs.Frames.{FramesStandAsTimePasses}
+use Rattle.pz_tree.specs.pz_tree_standing.Frames.{FramesStandAsTimePasses}
 use Rattle.pz_sim.proofs.Passed.{all_from, passes_on, trees_after, totals_at}
 use Rattle.pz_sim.proofs.Outlasting.{retold_first}
 use Rattle.pz_sim.proofs.Quieted.{none_quiet}

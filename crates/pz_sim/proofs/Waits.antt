@@ -4,8 +4,8 @@ use Rattle.std.specs.Prelude.{slice_get, IfSome}
 use Rattle.std.specs.Option.{option_or, option_map}
 use Rattle.std.proofs.Math.Nat.{min-le_left, min-le_right}
 use Rattle.std.proofs.lemmas.Option.{same_Some}
-use Rattle.pz_offer.specs.Summaries.{least}
-use Rattle.pz_offer.specs.declared.trouble.Trouble.{Trouble}
+use Rattle.pz_rules.specs.pz_offer.Summaries.{least}
+use Rattle.pz_rules.specs.pz_offer.declared.trouble.Trouble.{Trouble}
 use Rattle.pz_match.specs.Pairs.{Judged, first_trouble}
 use Rattle.pz_match.specs.Table.{Table}
 use Rattle.pz_rules.specs.declared.moment.Moment.{Moment}
@@ -17,8 +17,8 @@ use Rattle.pz_sim_totals.specs.declared.total.Total.{Total}
 use Rattle.pz_sim_totals.specs.Sums as sums
 use Rattle.pz_sim_laws.specs.Members.{Member}
 use Rattle.pz_sim_laws.specs.Deciding.{total_of, total_of_all, offers_in, calm, unless, decided}
-use Rattle.pz_tree_standing.specs.Soon.{IsSoon}
-use Rattle.pz_tree_standing.specs.Summaries.{least_of, summary_of}
+use Rattle.pz_tree.specs.pz_tree_standing.Soon.{IsSoon}
+use Rattle.pz_tree.specs.pz_tree_standing.Summaries.{least_of, summary_of}
 use Rattle.pz_tree.specs.declared.tree.Tree.{Tree}
 use Rattle.pz_tree.specs.Trees.{at_in, term_in, IsFresh}
 use Rattle.pz_sim.specs.Members.{member_of, members_of}

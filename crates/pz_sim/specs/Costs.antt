@@ -1,11 +1,11 @@
 -- How many steps a choice and a passing of time may take. A step is a visit of a node, or a question about a pair.
 use Rattle.std.specs.Prelude.{◌≡◌, ◌≤◌, ◌+◌, ◌*◌, ◌||◌, max, ℕ, Bool, false, nat_eq, List, [], ◌∷◌, length, filter, Some, Ok, IfOk, slice_get}
 use Rattle.std.specs.Option.{option_map_or}
-use Rattle.pz_syntax.specs.Classes.{ModelTree}
-use Rattle.pz_syntax.specs.declared.tokens.Pos.{Pos}
-use Rattle.pz_copy.specs.Parcels.{ParcelView}
-use Rattle.pz_offer.specs.declared.end.End.{End}
-use Rattle.pz_offer.specs.PlaceOrder.{Place}
+use Rattle.pz_rules.specs.pz_syntax.Classes.{ModelTree}
+use Rattle.pz_rules.specs.pz_syntax.declared.tokens.Pos.{Pos}
+use Rattle.pz_rules.specs.pz_copy.Parcels.{ParcelView}
+use Rattle.pz_rules.specs.pz_offer.declared.end.End.{End}
+use Rattle.pz_rules.specs.pz_offer.PlaceOrder.{Place}
 use Rattle.pz_match.specs.Pairs.{Judged}
 use Rattle.pz_rules.specs.declared.action.Action.{Action}
 use Rattle.pz_rules.specs.declared.action.Action.TheVariants.{Internal, Comm}
@@ -20,8 +20,8 @@ use Rattle.pz_term_simulator.specs.Simulations.{Simulation, stands, broken}
 use Rattle.pz_sim_laws.specs.Couples.{AreCouples}
 use Rattle.pz_sim_laws.specs.Members.{config_of}
 use Rattle.pz_tree.specs.Deeds.{Leaves}
-use Rattle.pz_tree_regrowing.specs.Costs.{on_way, made_all, dropped_all}
-use Rattle.pz_tree_standing.specs.Woken.{clocked}
+use Rattle.pz_tree.specs.pz_tree_regrowing.Costs.{on_way, made_all, dropped_all}
+use Rattle.pz_tree.specs.pz_tree_standing.Woken.{clocked}
 use Rattle.pz_tree.specs.declared.tree.Tree.{Tree}
 use Rattle.pz_tree.specs.Trees.{at_in, term_in, process_in, live_in, woken_in}
 use Rattle.pz_sim.specs.Members.{members_of}

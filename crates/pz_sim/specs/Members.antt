@@ -1,6 +1,6 @@
 -- Trees as the processes of a system.
 use Rattle.std.specs.Prelude.{List, map}
-use Rattle.pz_syntax.specs.Classes.{ModelTree}
+use Rattle.pz_rules.specs.pz_syntax.Classes.{ModelTree}
 use Rattle.pz_sim_laws.specs.Members.{Member}
 use Rattle.pz_tree.specs.declared.tree.Tree.{Tree}
 use Rattle.pz_tree.specs.Trees.{at_in, term_in}

@@ -1,9 +1,9 @@
 // A process acts, and what is kept of it is told anew.
 
 ghost use Rattle.std.specs.Prelude.{◌≡◌, ◌≤◌, ◌<◌, ◌+◌, ◌*◌, ℕ, ⊤, not, List, Some, Ok, filter, length, slice_get, slice_set, IfOk, OnOk, OnErr};
-ghost use Rattle.pz_classes.specs.CheckedView.{checked_model};
-ghost use Rattle.pz_syntax.specs.declared.tokens.Pos.{Pos};
-ghost use Rattle.pz_copy.specs.Parcels.{ParcelView};
+ghost use Rattle.pz_bind.specs.pz_classes.CheckedView.{checked_model};
+ghost use Rattle.pz_rules.specs.pz_syntax.declared.tokens.Pos.{Pos};
+ghost use Rattle.pz_rules.specs.pz_copy.Parcels.{ParcelView};
 ghost use Rattle.pz_bind.specs.devices.Nets.{IsNet};
 ghost use Rattle.pz_rules.specs.declared.action.Kind.{Kind};
 ghost use Rattle.pz_rules.specs.declared.action.Action.TheVariants.{Internal};
@@ -15,7 +15,7 @@ ghost use Rattle.pz_sim_laws.specs.Members.{Member};
 ghost use Rattle.pz_sim_laws.specs.Deciding.{total_of};
 ghost use Rattle.pz_tree.specs.Deeds.{able, deed, CanAct, CanSend, Leaves};
 ghost use Rattle.pz_match.specs.Pairs.{questions, touches};
-ghost use Rattle.pz_tree_regrowing.specs.Costs.{on_way};
+ghost use Rattle.pz_tree.specs.pz_tree_regrowing.Costs.{on_way};
 ghost use Rattle.pz_tree.specs.declared.tree.Tree.{Tree};
 ghost use Rattle.pz_tree.specs.Acting.{answered};
 ghost use Rattle.pz_tree.specs.Trees.{at_in, term_in, process_in, IsFresh};
@@ -28,10 +28,10 @@ ghost use Rattle.pz_sim.specs.devices.Tables.{IsTable, AreHeardBut, CanTell};
 use crate::scene::Scene;
 use crate::summing::total_in;
 use crate::telling::{silence, tell};
-use pz_classes::Checked;
+use pz_bind::pz_classes::Checked;
 use pz_match::{Pairs, Sender};
 use pz_nodes::Steps;
-use pz_offer::{End, Place, Trouble};
+use pz_rules::pz_offer::{End, Place, Trouble};
 use pz_sim_totals::Totals;
 use pz_tree::{How, Tree};
 use std::alloc::AllocError;
@@ -301,7 +301,8 @@ pub(crate) fn act_alone<L: Ledger>(
     }
 }
 
-// The sender of a pair hands over what it offers, and the receiver takes it; what is kept of both is told anew. At a
+// The sender of a pair hands over what it offers, and the receiver takes it; what is kept of both is told anew. Until
+// then the sender is silent in the table, so that no question is asked of a receive that it offers no longer. At a
 // trouble of either the trees are as before. The only error is want of memory.
 pub(crate) fn hand_over<L: Ledger>(
     scene: Scene<'_>,
@@ -335,15 +336,6 @@ pub(crate) fn hand_over<L: Ledger>(
         trees,
         pairs,
         sender.end.process,
-        steps,
-    )?;
-    silence(
-        scene.alloc,
-        scene.checked,
-        scene.clock,
-        trees,
-        pairs,
-        receiver.process,
         steps,
     )?;
     let left = exchange(scene, trees, sender, receiver, steps)?;

@@ -1,12 +1,12 @@
 // Who says whether a receive takes the values of a send: the tree of its process.
 
-ghost use Rattle.pz_classes.specs.CheckedView.{checked_model};
+ghost use Rattle.pz_bind.specs.pz_classes.CheckedView.{checked_model};
 
-use pz_classes::Checked;
-use pz_copy::Parcel;
+use pz_bind::pz_classes::Checked;
 use pz_match::Judge;
 use pz_nodes::Steps;
-use pz_offer::{End, Verdict};
+use pz_rules::pz_copy::Parcel;
+use pz_rules::pz_offer::{End, Verdict};
 use pz_tree::Tree;
 use std::alloc::AllocError;
 use std::sync::ledger::Ledger;

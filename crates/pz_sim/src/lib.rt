@@ -17,5 +17,6 @@ mod starting;
 mod summing;
 mod telling;
 
+pub use pz_term_simulator;
 pub use sim::Sim;
 pub use standing::Standing;

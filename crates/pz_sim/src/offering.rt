@@ -1,7 +1,7 @@
 // The offers of a simulator by their numbers.
 
 ghost use Rattle.std.specs.Prelude.{◌≡◌, ◌<◌, ◌^◌, ℕ, false, length, IfOk};
-ghost use Rattle.pz_syntax.specs.Classes.{ModelTree};
+ghost use Rattle.pz_rules.specs.pz_syntax.Classes.{ModelTree};
 ghost use Rattle.pz_match.specs.Pairs.{taken};
 ghost use Rattle.pz_rules.specs.declared.moment.Moment.TheVariants as now;
 ghost use Rattle.pz_term_simulator.specs.Simulations.{IsMomentOf, IsOffer};
@@ -12,8 +12,8 @@ ghost use Rattle.pz_sim.specs.devices.Numbered.{HasAction, IsActionOf, IsCommuni
 use crate::sim::Sim;
 use crate::standing::Standing;
 use pz_match::{Pairs, Sender};
-use pz_offer::End;
 use pz_rules::Action;
+use pz_rules::pz_offer::End;
 use pz_sim_totals::Found;
 use pz_tree::{InternalAction, Tree};
 use std::alloc::AllocError;

@@ -1,11 +1,11 @@
 // Time passes.
 
 ghost use Rattle.std.specs.Prelude.{◌≡◌, ◌≤◌, ◌<◌, ◌+◌, ◌*◌, ◌^◌, ℕ, Bool, true, [], Some, length, map, slice_get, slice_set, All, IfOk, OnOk, OnErr};
-ghost use Rattle.pz_classes.specs.CheckedView.{checked_model};
+ghost use Rattle.pz_bind.specs.pz_classes.CheckedView.{checked_model};
 ghost use Rattle.pz_bind.specs.devices.Nets.{IsNet};
 ghost use Rattle.pz_rules.specs.Steps.{PassesTo};
 ghost use Rattle.pz_sim_laws.specs.Members.{config_of};
-ghost use Rattle.pz_tree_standing.specs.Soon.{HasRoom};
+ghost use Rattle.pz_tree.specs.pz_tree_standing.Soon.{HasRoom};
 ghost use Rattle.pz_tree.specs.Trees.{IsFresh, woken_in};
 ghost use Rattle.pz_sim.specs.Costs.{visited, visited_all, names_at, with_end_in};
 ghost use Rattle.pz_sim.specs.Members.{members_of};
@@ -21,13 +21,13 @@ use crate::sim::Sim;
 use crate::standing::Standing;
 use crate::summing::total_in;
 use crate::telling::{silence, tell};
-use pz_classes::Checked;
+use pz_bind::pz_classes::Checked;
 use pz_match::Pairs;
 use pz_nodes::Steps;
 use pz_rules::Moment;
 use pz_sim_totals::Totals;
 use pz_term_simulator::PassError;
-use pz_tree::Tree;
+use pz_tree::{Tree, pz_tree_standing};
 use std::alloc::AllocError;
 use std::sync::ledger::Ledger;
 

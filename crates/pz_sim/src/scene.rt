@@ -1,5 +1,5 @@
 use pz_bind::Net;
-use pz_classes::Checked;
+use pz_bind::pz_classes::Checked;
 use pz_rules::Limits;
 use std::alloc::Global;
 

@@ -6,7 +6,7 @@ ghost use Rattle.pz_sim.specs.Sims.{simulation_of};
 
 use crate::sim::Sim;
 use crate::standing::Standing;
-use pz_copy::Parcel;
+use pz_rules::pz_copy::Parcel;
 use pz_term_simulator::shown_at_start;
 use std::alloc::AllocError;
 

@@ -1,5 +1,5 @@
 ghost use Rattle.std.specs.Prelude.{◌≡◌};
-ghost use Rattle.pz_classes.specs.CheckedView.{checked_model};
+ghost use Rattle.pz_bind.specs.pz_classes.CheckedView.{checked_model};
 ghost use Rattle.pz_bind.specs.devices.Nets.{IsNet};
 ghost use Rattle.pz_rules.specs.declared.limits.Edition.TheVariants.{Two};
 ghost use Rattle.pz_rules.specs.CallLaws.{NoRounds};
@@ -8,7 +8,7 @@ ghost use Rattle.pz_sim.specs.devices.Holding.{Holds};
 
 use crate::standing::Standing;
 use pz_bind::Net;
-use pz_classes::Checked;
+use pz_bind::pz_classes::Checked;
 use pz_match::Pairs;
 use pz_rules::{Limits, Moment};
 use pz_sim_totals::Totals;

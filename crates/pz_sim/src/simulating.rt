@@ -4,9 +4,9 @@ ghost use Rattle.std.specs.Prelude.{◌≡◌};
 
 use crate::sim::Sim;
 use pz_bind::Net;
-use pz_classes::Checked;
-use pz_copy::Parcel;
+use pz_bind::pz_classes::Checked;
 use pz_nodes::Steps;
+use pz_rules::pz_copy::Parcel;
 use pz_rules::{Action, Limits, Moment};
 use pz_term_simulator::{ChooseError, PassError, Simulator};
 use std::alloc::AllocError;

@@ -1,5 +1,5 @@
-use pz_offer::Trouble;
 use pz_rules::Moment;
+use pz_rules::pz_offer::Trouble;
 
 /// How it is with a simulator.
 #[derive(Drop)]

@@ -1,7 +1,7 @@
 // A simulator before its first step.
 
 ghost use Rattle.std.specs.Prelude.{◌≡◌, ◌<◌, length, map, All, IfOk, OnOk};
-ghost use Rattle.pz_classes.specs.CheckedView.{checked_model};
+ghost use Rattle.pz_bind.specs.pz_classes.CheckedView.{checked_model};
 ghost use Rattle.pz_classes_openings.specs.OpeningRules.{Opens};
 ghost use Rattle.pz_bind.specs.devices.Nets.{IsNet};
 ghost use Rattle.pz_rules.specs.declared.limits.Edition.TheVariants.{Two};
@@ -24,14 +24,14 @@ use crate::standing::Standing;
 use crate::summing::totals_in;
 use crate::telling::tell;
 use pz_bind::Net;
-use pz_classes::Checked;
+use pz_bind::pz_classes::Checked;
 use pz_match::Pairs;
 use pz_nodes::Steps;
-use pz_offer::Trouble;
+use pz_rules::pz_offer::Trouble;
 use pz_rules::{Limits, Moment};
 use pz_sim_totals::Totals;
-use pz_tree::Tree;
 use pz_tree::pz_term_processes::{Process, Started, start};
+use pz_tree::{Tree, pz_tree_standing};
 use std::alloc::{AllocError, Global};
 use std::marker::Brand;
 use std::sync::ledger::{Blank, Ledger};

@@ -1,7 +1,7 @@
 // What each process can do in short, from its tree.
 
 ghost use Rattle.std.specs.Prelude.{◌≡◌, length, map, All, IfOk};
-ghost use Rattle.pz_syntax.specs.Classes.{ModelTree};
+ghost use Rattle.pz_rules.specs.pz_syntax.Classes.{ModelTree};
 ghost use Rattle.pz_sim_laws.specs.Deciding.{total_of};
 ghost use Rattle.pz_tree.specs.Trees.{IsFresh};
 ghost use Rattle.pz_sim.specs.Members.{member_of};

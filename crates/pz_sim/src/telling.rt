@@ -1,7 +1,7 @@
 // The table of pairs is told what a process offers.
 
 ghost use Rattle.std.specs.Prelude.{◌≡◌, ◌+◌, ℕ, not, List, Some, filter, length, slice_get, slice_set, OnOk, OnErr};
-ghost use Rattle.pz_classes.specs.CheckedView.{checked_model};
+ghost use Rattle.pz_bind.specs.pz_classes.CheckedView.{checked_model};
 ghost use Rattle.pz_match.specs.Pairs.{questions, touches};
 ghost use Rattle.pz_sim_laws.specs.Members.{Member};
 ghost use Rattle.pz_bind.specs.devices.Nets.{IsNet};
@@ -11,10 +11,10 @@ ghost use Rattle.pz_sim.specs.devices.Tables.{IsTable, AreHeard, AreHeardBut, Ca
 
 use crate::judging::TreeJudge;
 use pz_bind::Net;
-use pz_classes::Checked;
+use pz_bind::pz_classes::Checked;
 use pz_match::Pairs;
 use pz_nodes::Steps;
-use pz_offer::{ReceiveOffer, SendOffer};
+use pz_rules::pz_offer::{ReceiveOffer, SendOffer};
 use pz_tree::Tree;
 use std::alloc::{AllocError, Global};
 use std::sync::ledger::Ledger;

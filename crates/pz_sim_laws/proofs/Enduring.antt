@@ -2,33 +2,33 @@
 use Rattle.std.proofs.Common.{◌≡◌, ◌<◌, ◌+◌, ℕ, zero, suc, Bool, true, false, List, [], ◌∷◌, map, Result, Ok, Err, refl, sym, subst, ap, ◌∙◌, arith}
 use Rattle.std.specs.Prelude.{Contains}
 use Rattle.std.specs.List.{AllZip}
-use Rattle.pz_syntax.specs.declared.tokens.Pos.{Pos}
-use Rattle.pz_syntax.specs.Statements as statement
-use Rattle.pz_classes.specs.Soundness.{IsSound}
-use Rattle.pz_copy.specs.Parcels.{ParcelView}
-use Rattle.pz_offer.specs.declared.trouble.Trouble.{Trouble}
-use Rattle.pz_offer.specs.declared.ends.SendOffer.{SendOffer}
-use Rattle.pz_offer.specs.declared.ends.ReceiveOffer.{ReceiveOffer}
-use Rattle.pz_offer.specs.PlaceOrder.{Place}
-use Rattle.pz_eval_rules.specs.Clocks.{names_clock}
-use Rattle.pz_eval_rules.specs.Laws.{SoundDataIsTimeless, UnclockedIsTimeless}
-use Rattle.pz_eval_rules.specs.devices.Laws.{UnclockedListIsComputedTheSame}
-use Rattle.pz_rules.specs.Terms.{Code, Step, Term, done, leaf, wait, sequence, parallel, select, guarded, frame, abort, idle, handling, Terms, no_terms, and, term_at, child, count, frame_in}
-use Rattle.pz_rules.specs.Settings.{Context, in_state}
-use Rattle.pz_state.specs.States.{StateView}
-use Rattle.pz_rules.specs.Evaluations.{Tests, allowance}
-use Rattle.pz_rules.specs.Active as active
-use Rattle.pz_rules.specs.Active.{Active, IsActive, Reached}
-use Rattle.pz_rules.specs.Acting.{IsReceive}
-use Rattle.pz_rules.specs.Messages as messages
-use Rattle.pz_rules.specs.Messages.{Receives, Judges, bound}
-use Rattle.pz_rules.specs.Laws.{WhatReceivesIsAReceive}
-use Rattle.pz_rules.specs.devices.Computed.{TestsAreComputed, OnePassingIsComputed}
-use Rattle.pz_rules.specs.devices.Found.{tested}
-use Rattle.pz_rules.specs.devices.Passing.{passed, passed_all, if_open}
-use Rattle.pz_rules.specs.devices.Walk as walk
-use Rattle.pz_rules.specs.devices.Walk.{ActivePart, Noted, here, under, behind, active_parts, active_children, active_sends, active_receives}
-use Rattle.pz_rules.specs.devices.Walks.{IsThere, ReceivesAreListed}
+use Rattle.pz_tree_standing.specs.pz_syntax.declared.tokens.Pos.{Pos}
+use Rattle.pz_tree_standing.specs.pz_syntax.Statements as statement
+use Rattle.pz_tree_standing.specs.pz_classes_rules.Soundness.{IsSound}
+use Rattle.pz_tree_standing.specs.pz_copy.Parcels.{ParcelView}
+use Rattle.pz_tree_standing.specs.pz_offer.declared.trouble.Trouble.{Trouble}
+use Rattle.pz_tree_standing.specs.pz_offer.declared.ends.SendOffer.{SendOffer}
+use Rattle.pz_tree_standing.specs.pz_offer.declared.ends.ReceiveOffer.{ReceiveOffer}
+use Rattle.pz_tree_standing.specs.pz_offer.PlaceOrder.{Place}
+use Rattle.pz_tree_standing.specs.pz_eval_rules.Clocks.{names_clock}
+use Rattle.pz_tree_standing.specs.pz_eval_rules.Laws.{SoundDataIsTimeless, UnclockedIsTimeless}
+use Rattle.pz_tree_standing.specs.pz_eval_rules.devices.Laws.{UnclockedListIsComputedTheSame}
+use Rattle.pz_tree_standing.specs.pz_rules.Terms.{Code, Step, Term, done, leaf, wait, sequence, parallel, select, guarded, frame, abort, idle, handling, Terms, no_terms, and, term_at, child, count, frame_in}
+use Rattle.pz_tree_standing.specs.pz_rules.Settings.{Context, in_state}
+use Rattle.pz_tree_standing.specs.pz_state.States.{StateView}
+use Rattle.pz_tree_standing.specs.pz_rules.Evaluations.{Tests, allowance}
+use Rattle.pz_tree_standing.specs.pz_rules.Active as active
+use Rattle.pz_tree_standing.specs.pz_rules.Active.{Active, IsActive, Reached}
+use Rattle.pz_tree_standing.specs.pz_rules.Acting.{IsReceive}
+use Rattle.pz_tree_standing.specs.pz_rules.Messages as messages
+use Rattle.pz_tree_standing.specs.pz_rules.Messages.{Receives, Judges, bound}
+use Rattle.pz_tree_standing.specs.pz_rules.Laws.{WhatReceivesIsAReceive}
+use Rattle.pz_tree_standing.specs.pz_rules.devices.Computed.{TestsAreComputed, OnePassingIsComputed}
+use Rattle.pz_tree_standing.specs.pz_rules.devices.Found.{tested}
+use Rattle.pz_tree_standing.specs.pz_rules.devices.Passing.{passed, passed_all, if_open}
+use Rattle.pz_tree_standing.specs.pz_rules.devices.Walk as walk
+use Rattle.pz_tree_standing.specs.pz_rules.devices.Walk.{ActivePart, Noted, here, under, behind, active_parts, active_children, active_sends, active_receives}
+use Rattle.pz_tree_standing.specs.pz_rules.devices.Walks.{IsThere, ReceivesAreListed}
 use Rattle.pz_tree_standing.specs.Steady.{later}
 use Rattle.pz_tree_standing.specs.Woken.{any_part, is_clocked, clocked}
 use Rattle.pz_tree_standing.specs.devices.SummaryLaws.{TestIsSteady}

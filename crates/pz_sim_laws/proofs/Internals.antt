@@ -4,20 +4,20 @@ use Rattle.std.specs.Prelude.{slice_get, AllPairs, Contains}
 use Rattle.std.proofs.lemmas.Option.{same_Some}
 use Rattle.std.proofs.lemmas.List.{length-map}
 use Rattle.std.proofs.lemmas.List.Elements.{Contains-append_left, Contains-append_right}
-use Rattle.pz_syntax.specs.declared.tokens.Pos.{Pos}
-use Rattle.pz_offer.specs.declared.end.End.{End}
-use Rattle.pz_offer.specs.PlaceOrder.{PlaceBefore, EndBefore}
-use Rattle.pz_rules.specs.declared.action.Kind.{Kind}
-use Rattle.pz_rules.specs.declared.action.Action.{Action}
-use Rattle.pz_rules.specs.declared.action.Action.TheVariants.{Internal, Comm}
-use Rattle.pz_rules.specs.Terms.{Term}
-use Rattle.pz_rules.specs.Settings.{Setting, Context}
-use Rattle.pz_rules.specs.InternalActions.{Can}
-use Rattle.pz_rules.specs.Offers as offers
-use Rattle.pz_rules.specs.Offers.{Offers, Before}
-use Rattle.pz_rules.specs.devices.Walk as walk
-use Rattle.pz_rules.specs.devices.Walk.{Noted, internal_actions}
-use Rattle.pz_rules.specs.devices.Walks.{IsThere, InternalActionsAreListed}
+use Rattle.pz_tree_standing.specs.pz_syntax.declared.tokens.Pos.{Pos}
+use Rattle.pz_tree_standing.specs.pz_offer.declared.end.End.{End}
+use Rattle.pz_tree_standing.specs.pz_offer.PlaceOrder.{PlaceBefore, EndBefore}
+use Rattle.pz_tree_standing.specs.pz_rules.declared.action.Kind.{Kind}
+use Rattle.pz_tree_standing.specs.pz_rules.declared.action.Action.{Action}
+use Rattle.pz_tree_standing.specs.pz_rules.declared.action.Action.TheVariants.{Internal, Comm}
+use Rattle.pz_tree_standing.specs.pz_rules.Terms.{Term}
+use Rattle.pz_tree_standing.specs.pz_rules.Settings.{Setting, Context}
+use Rattle.pz_tree_standing.specs.pz_rules.InternalActions.{Can}
+use Rattle.pz_tree_standing.specs.pz_rules.Offers as offers
+use Rattle.pz_tree_standing.specs.pz_rules.Offers.{Offers, Before}
+use Rattle.pz_tree_standing.specs.pz_rules.devices.Walk as walk
+use Rattle.pz_tree_standing.specs.pz_rules.devices.Walk.{Noted, internal_actions}
+use Rattle.pz_tree_standing.specs.pz_rules.devices.Walks.{IsThere, InternalActionsAreListed}
 use Rattle.pz_sim_totals.specs.Sums as sums
 use Rattle.pz_sim_laws.specs.Members.{Member, config_of, AreMembers}
 use Rattle.pz_sim_laws.specs.Deciding.{total_of, total_of_all}

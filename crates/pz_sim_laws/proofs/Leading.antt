@@ -4,36 +4,36 @@ use Rattle.std.specs.Prelude.{slice_get}
 use Rattle.std.proofs.lemmas.Bool.{cases_lt}
 use Rattle.std.proofs.lemmas.Option.{slice_get_within}
 use Rattle.std.proofs.lemmas.List.{length-map, length-set, map-set}
-use Rattle.pz_syntax.specs.declared.tokens.Pos.{Pos}
-use Rattle.pz_syntax.specs.Expressions.{Part, left_out, written}
-use Rattle.pz_syntax.specs.Statements as statements
-use Rattle.pz_value.specs.declared.value.ClassId.{ClassId}
-use Rattle.pz_value.specs.declared.value.Value.{Value}
-use Rattle.pz_classes_code.specs.declared.slot.Slot.{Slot}
-use Rattle.pz_copy.specs.Parcels.{ParcelView}
-use Rattle.pz_state.specs.States.{StateView, object_limit}
+use Rattle.pz_tree_standing.specs.pz_syntax.declared.tokens.Pos.{Pos}
+use Rattle.pz_tree_standing.specs.pz_syntax.Expressions.{Part, left_out, written}
+use Rattle.pz_tree_standing.specs.pz_syntax.Statements as statements
+use Rattle.pz_tree_standing.specs.pz_value.declared.value.ClassId.{ClassId}
+use Rattle.pz_tree_standing.specs.pz_value.declared.value.Value.{Value}
+use Rattle.pz_tree_standing.specs.pz_classes_code.declared.slot.Slot.{Slot}
+use Rattle.pz_tree_standing.specs.pz_copy.Parcels.{ParcelView}
+use Rattle.pz_tree_standing.specs.pz_state.States.{StateView, object_limit}
 use Rattle.pz_bind_levels.specs.Places.{Address}
-use Rattle.pz_bind.specs.Nest.{processes, class_at}
-use Rattle.pz_offer.specs.declared.end.End.{End}
-use Rattle.pz_offer.specs.declared.trouble.Trouble.{Trouble}
-use Rattle.pz_offer.specs.PlaceOrder.{Place}
-use Rattle.pz_eval_rules.specs.Laws.{EachListHasAnOutcome}
-use Rattle.pz_rules.specs.declared.action.Kind.{Kind}
-use Rattle.pz_rules.specs.declared.action.Action.TheVariants.{Internal, Comm}
-use Rattle.pz_rules.specs.Terms as terms
-use Rattle.pz_rules.specs.Terms.{Term}
-use Rattle.pz_rules.specs.Settings.{Setting, Process, Context, in_state}
-use Rattle.pz_rules.specs.Active.{IsActive}
-use Rattle.pz_rules.specs.Evaluations.{allowance, values_or_trouble, GivesPart}
-use Rattle.pz_rules.specs.Leaving.{settled}
-use Rattle.pz_rules.specs.Meanings.{and_then}
-use Rattle.pz_rules.specs.Messages as messages
-use Rattle.pz_rules.specs.Messages.{Receives, Takes}
-use Rattle.pz_rules.specs.Delays.{Passes}
-use Rattle.pz_rules.specs.Configurations.{Config, Stands}
-use Rattle.pz_rules.specs.Offers.{IsPair}
-use Rattle.pz_rules.specs.Steps as steps
-use Rattle.pz_rules.specs.Steps.{Acts, Next, PassesTo}
+use Rattle.pz_tree_standing.specs.pz_bind_rules.Nest.{processes, class_at}
+use Rattle.pz_tree_standing.specs.pz_offer.declared.end.End.{End}
+use Rattle.pz_tree_standing.specs.pz_offer.declared.trouble.Trouble.{Trouble}
+use Rattle.pz_tree_standing.specs.pz_offer.PlaceOrder.{Place}
+use Rattle.pz_tree_standing.specs.pz_eval_rules.Laws.{EachListHasAnOutcome}
+use Rattle.pz_tree_standing.specs.pz_rules.declared.action.Kind.{Kind}
+use Rattle.pz_tree_standing.specs.pz_rules.declared.action.Action.TheVariants.{Internal, Comm}
+use Rattle.pz_tree_standing.specs.pz_rules.Terms as terms
+use Rattle.pz_tree_standing.specs.pz_rules.Terms.{Term}
+use Rattle.pz_tree_standing.specs.pz_rules.Settings.{Setting, Process, Context, in_state}
+use Rattle.pz_tree_standing.specs.pz_rules.Active.{IsActive}
+use Rattle.pz_tree_standing.specs.pz_rules.Evaluations.{allowance, values_or_trouble, GivesPart}
+use Rattle.pz_tree_standing.specs.pz_rules.Leaving.{settled}
+use Rattle.pz_tree_standing.specs.pz_rules.Meanings.{and_then}
+use Rattle.pz_tree_standing.specs.pz_rules.Messages as messages
+use Rattle.pz_tree_standing.specs.pz_rules.Messages.{Receives, Takes}
+use Rattle.pz_tree_standing.specs.pz_rules.Delays.{Passes}
+use Rattle.pz_tree_standing.specs.pz_rules.Configurations.{Config, Stands}
+use Rattle.pz_tree_standing.specs.pz_rules.Offers.{IsPair}
+use Rattle.pz_tree_standing.specs.pz_rules.Steps as steps
+use Rattle.pz_tree_standing.specs.pz_rules.Steps.{Acts, Next, PassesTo}
 use Rattle.pz_tree_standing.specs.Steady.{later}
 use Rattle.pz_sim_laws.specs.Members.{Member, process_of, config_of, become, AreMembers}
 use Rattle.pz_sim_laws.specs.Deeds.{Manner, alone, handing, taking, deed}

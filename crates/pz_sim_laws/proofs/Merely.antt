@@ -5,49 +5,49 @@ use Rattle.std.proofs.Math.Logic.{∥∥₁_elim}
 use Rattle.std.proofs.Math.Nat.{ℕ_set}
 use Rattle.std.specs.Coded.{Coded-set, le_prop, coded_option}
 use Rattle.std.proofs.lemmas.Option.{same_Some, slice_get_within}
-use Rattle.pz_syntax.specs.declared.tokens.Pos.{Pos}
-use Rattle.pz_syntax.specs.declared.names.Id.{Id}
-use Rattle.pz_syntax.specs.Statements as statement
-use Rattle.pz_value.specs.declared.value.Value.{Value}
-use Rattle.pz_classes_code.specs.declared.slot.Slot.{Slot}
-use Rattle.pz_classes.specs.declared.method_id.Counts.TheVariants.{Process as process_counts}
-use Rattle.pz_classes.specs.Bodies.{BodyTree, data_body, process_body}
-use Rattle.pz_classes.specs.MethodBodies.{process_method_body}
-use Rattle.pz_classes.specs.FitBodies.{StatementFits, how_many}
-use Rattle.pz_classes.specs.SoundBodies.{BodiesFit, SoundBodiesFit}
-use Rattle.pz_classes.specs.Soundness.{IsSound}
-use Rattle.pz_copy.specs.Parcels.{ParcelView}
-use Rattle.pz_state.specs.States.{StateView}
-use Rattle.pz_offer.specs.declared.trouble.Trouble.{Trouble}
-use Rattle.pz_offer.specs.contracts.trouble.Trouble as trouble_row
-use Rattle.pz_eval_rules.specs.Laws.{EachHasAnOutcome, EachListHasAnOutcome}
-use Rattle.pz_rules.specs.declared.action.Kind.{Kind}
-use Rattle.pz_rules.specs.declared.action.Action.{Action}
-use Rattle.pz_rules.specs.contracts.action.Action as action_row
-use Rattle.pz_rules.specs.declared.moment.Moment.{Moment}
-use Rattle.pz_rules.specs.contracts.moment.Moment as moment_row
-use Rattle.pz_rules.specs.declared.moment.Moment.TheVariants.{Time}
-use Rattle.pz_rules.specs.Terms.{Code, Codes, Term, leaf}
-use Rattle.pz_rules.specs.Settings.{Setting, Process, Context, in_state}
-use Rattle.pz_rules.specs.Active.{IsActive}
-use Rattle.pz_rules.specs.Evaluations.{allowance, value_or_trouble, values_or_trouble, Gives, GivesAll}
-use Rattle.pz_rules.specs.InternalActions as actions
-use Rattle.pz_rules.specs.InternalActions.{Can, Performs, done_in}
-use Rattle.pz_rules.specs.Leaving.{settled}
-use Rattle.pz_rules.specs.Meanings.{and_then}
-use Rattle.pz_rules.specs.Messages as messages
-use Rattle.pz_rules.specs.Messages.{Sends, Hands}
-use Rattle.pz_rules.specs.Fitting.{IsFit, TermFits}
-use Rattle.pz_rules.specs.Configurations.{Config, IsWhole, Stands}
-use Rattle.pz_rules.specs.Offers as offers
-use Rattle.pz_rules.specs.Offers.{PartAt, Offers, IsOffers, IsPair}
-use Rattle.pz_rules.specs.Steps as steps
-use Rattle.pz_rules.specs.Steps.{Acts, Deed, Next, PassesTo}
-use Rattle.pz_rules.specs.Moments.{IsMoment}
-use Rattle.pz_rules.specs.Runs.{IsChoice}
-use Rattle.pz_rules.specs.Laws.{OneListOfOffers, EveryListOfOffers, WiresAreKnown, OneMoment, EveryMoment, EveryPassing, OneNext, OnePassing}
-use Rattle.pz_rules.specs.devices.Ends.{ActivePartsFit}
-use Rattle.pz_rules.specs.devices.Sets.{StatementsAreASet}
+use Rattle.pz_tree_standing.specs.pz_syntax.declared.tokens.Pos.{Pos}
+use Rattle.pz_tree_standing.specs.pz_syntax.declared.names.Id.{Id}
+use Rattle.pz_tree_standing.specs.pz_syntax.Statements as statement
+use Rattle.pz_tree_standing.specs.pz_value.declared.value.Value.{Value}
+use Rattle.pz_tree_standing.specs.pz_classes_code.declared.slot.Slot.{Slot}
+use Rattle.pz_tree_standing.specs.pz_classes_rules.declared.method_id.Counts.TheVariants.{Process as process_counts}
+use Rattle.pz_tree_standing.specs.pz_classes_rules.Bodies.{BodyTree, data_body, process_body}
+use Rattle.pz_tree_standing.specs.pz_classes_rules.MethodBodies.{process_method_body}
+use Rattle.pz_tree_standing.specs.pz_classes_rules.FitBodies.{StatementFits, how_many}
+use Rattle.pz_tree_standing.specs.pz_classes_rules.SoundBodies.{BodiesFit, SoundBodiesFit}
+use Rattle.pz_tree_standing.specs.pz_classes_rules.Soundness.{IsSound}
+use Rattle.pz_tree_standing.specs.pz_copy.Parcels.{ParcelView}
+use Rattle.pz_tree_standing.specs.pz_state.States.{StateView}
+use Rattle.pz_tree_standing.specs.pz_offer.declared.trouble.Trouble.{Trouble}
+use Rattle.pz_tree_standing.specs.pz_offer.contracts.trouble.Trouble as trouble_row
+use Rattle.pz_tree_standing.specs.pz_eval_rules.Laws.{EachHasAnOutcome, EachListHasAnOutcome}
+use Rattle.pz_tree_standing.specs.pz_rules.declared.action.Kind.{Kind}
+use Rattle.pz_tree_standing.specs.pz_rules.declared.action.Action.{Action}
+use Rattle.pz_tree_standing.specs.pz_rules.contracts.action.Action as action_row
+use Rattle.pz_tree_standing.specs.pz_rules.declared.moment.Moment.{Moment}
+use Rattle.pz_tree_standing.specs.pz_rules.contracts.moment.Moment as moment_row
+use Rattle.pz_tree_standing.specs.pz_rules.declared.moment.Moment.TheVariants.{Time}
+use Rattle.pz_tree_standing.specs.pz_rules.Terms.{Code, Codes, Term, leaf}
+use Rattle.pz_tree_standing.specs.pz_rules.Settings.{Setting, Process, Context, in_state}
+use Rattle.pz_tree_standing.specs.pz_rules.Active.{IsActive}
+use Rattle.pz_tree_standing.specs.pz_rules.Evaluations.{allowance, value_or_trouble, values_or_trouble, Gives, GivesAll}
+use Rattle.pz_tree_standing.specs.pz_rules.InternalActions as actions
+use Rattle.pz_tree_standing.specs.pz_rules.InternalActions.{Can, Performs, done_in}
+use Rattle.pz_tree_standing.specs.pz_rules.Leaving.{settled}
+use Rattle.pz_tree_standing.specs.pz_rules.Meanings.{and_then}
+use Rattle.pz_tree_standing.specs.pz_rules.Messages as messages
+use Rattle.pz_tree_standing.specs.pz_rules.Messages.{Sends, Hands}
+use Rattle.pz_tree_standing.specs.pz_rules.Fitting.{IsFit, TermFits}
+use Rattle.pz_tree_standing.specs.pz_rules.Configurations.{Config, IsWhole, Stands}
+use Rattle.pz_tree_standing.specs.pz_rules.Offers as offers
+use Rattle.pz_tree_standing.specs.pz_rules.Offers.{PartAt, Offers, IsOffers, IsPair}
+use Rattle.pz_tree_standing.specs.pz_rules.Steps as steps
+use Rattle.pz_tree_standing.specs.pz_rules.Steps.{Acts, Deed, Next, PassesTo}
+use Rattle.pz_tree_standing.specs.pz_rules.Moments.{IsMoment}
+use Rattle.pz_tree_standing.specs.pz_rules.Runs.{IsChoice}
+use Rattle.pz_tree_standing.specs.pz_rules.Laws.{OneListOfOffers, EveryListOfOffers, WiresAreKnown, OneMoment, EveryMoment, EveryPassing, OneNext, OnePassing}
+use Rattle.pz_tree_standing.specs.pz_rules.devices.Ends.{ActivePartsFit}
+use Rattle.pz_tree_standing.specs.pz_rules.devices.Sets.{StatementsAreASet}
 use Rattle.pz_sim_laws.specs.Leading.{LeadsTo}
 use Rattle.pz_sim_laws.proofs.Lists.{some_there, all_got, contains_at}
 use Rattle.pz_sim_laws.proofs.Leading.{part_some, takes_some}

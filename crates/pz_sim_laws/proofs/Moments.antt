@@ -4,21 +4,21 @@ use Rattle.std.specs.Prelude.{Contains, slice_get}
 use Rattle.std.specs.Option.{option_or}
 use Rattle.std.proofs.lemmas.List.{length-map}
 use Rattle.std.proofs.lemmas.List.Elements.{Contains-append_left, Contains-append_right}
-use Rattle.pz_offer.specs.declared.trouble.Trouble.{Trouble}
+use Rattle.pz_tree_standing.specs.pz_offer.declared.trouble.Trouble.{Trouble}
 use Rattle.pz_match.specs.Pairs.{Judged, taken, first_trouble}
-use Rattle.pz_rules.specs.declared.action.Action.{Action}
-use Rattle.pz_rules.specs.declared.action.Action.TheVariants.{Internal, Comm}
-use Rattle.pz_rules.specs.declared.moment.Moment.{Moment}
-use Rattle.pz_rules.specs.Settings.{Setting}
-use Rattle.pz_rules.specs.Heights.{IsLow}
-use Rattle.pz_rules.specs.Offers.{Offers, Before, IsOffers}
-use Rattle.pz_rules.specs.Moments as moments
-use Rattle.pz_rules.specs.Moments.{Source, SourceBefore, part, pair, Troubles, IsLeastTrouble, IsLeft, IsFirstHigh, AllDone, Candidate, rank, IsMoment}
-use Rattle.pz_rules.specs.Laws.{OneListOfOffers}
-use Rattle.pz_rules.specs.Runs.{IsChoice}
-use Rattle.pz_rules.specs.devices.Walk as walk
-use Rattle.pz_rules.specs.devices.Walk.{Noted, internal_actions}
-use Rattle.pz_rules.specs.devices.Walks.{InternalActionsAreListed, DelaysAreListed, TroublesAreListed}
+use Rattle.pz_tree_standing.specs.pz_rules.declared.action.Action.{Action}
+use Rattle.pz_tree_standing.specs.pz_rules.declared.action.Action.TheVariants.{Internal, Comm}
+use Rattle.pz_tree_standing.specs.pz_rules.declared.moment.Moment.{Moment}
+use Rattle.pz_tree_standing.specs.pz_rules.Settings.{Setting}
+use Rattle.pz_tree_standing.specs.pz_rules.Heights.{IsLow}
+use Rattle.pz_tree_standing.specs.pz_rules.Offers.{Offers, Before, IsOffers}
+use Rattle.pz_tree_standing.specs.pz_rules.Moments as moments
+use Rattle.pz_tree_standing.specs.pz_rules.Moments.{Source, SourceBefore, part, pair, Troubles, IsLeastTrouble, IsLeft, IsFirstHigh, AllDone, Candidate, rank, IsMoment}
+use Rattle.pz_tree_standing.specs.pz_rules.Laws.{OneListOfOffers}
+use Rattle.pz_tree_standing.specs.pz_rules.Runs.{IsChoice}
+use Rattle.pz_tree_standing.specs.pz_rules.devices.Walk as walk
+use Rattle.pz_tree_standing.specs.pz_rules.devices.Walk.{Noted, internal_actions}
+use Rattle.pz_tree_standing.specs.pz_rules.devices.Walks.{InternalActionsAreListed, DelaysAreListed, TroublesAreListed}
 use Rattle.pz_part_queries.specs.Laws.{OneVerdict}
 use Rattle.pz_sim_totals.specs.declared.totals.Found.{Found}
 use Rattle.pz_sim_totals.specs.Sums.{IsAction}

@@ -2,22 +2,22 @@
 use Rattle.std.proofs.Common.{◌≡◌, ◌+◌, ℕ, suc, Bool, true, false, ◌||◌, List, [], ◌∷◌, ◌++◌, map, Option, Some, None, Result, Ok, Err, refl, sym, ap, ◌∙◌}
 use Rattle.std.specs.List.{cons_option}
 use Rattle.std.proofs.lemmas.Bool.{true≢false}
-use Rattle.pz_syntax.specs.declared.tokens.Pos.{Pos}
-use Rattle.pz_syntax.specs.Expressions.{Part, left_out, written}
-use Rattle.pz_syntax.specs.Statements as statement
-use Rattle.pz_value.specs.declared.value.ClassId.{ClassId}
-use Rattle.pz_classes_code.specs.declared.slot.Slot.{Slot}
-use Rattle.pz_offer.specs.declared.trouble.Trouble.{Trouble}
-use Rattle.pz_offer.specs.PlaceOrder.{Place}
-use Rattle.pz_eval_rules.specs.Clocks.{names_clock, part_names_clock, DataIsTimeless}
-use Rattle.pz_eval_rules.specs.devices.Laws.{UnclockedListIsComputedTheSame}
-use Rattle.pz_eval_rules.specs.devices.Outcomes.{listed_of, state_after}
-use Rattle.pz_rules.specs.Terms.{Code, Step, Term, done, leaf, wait, sequence, parallel, select, guarded, frame, abort, idle, handling, Terms, no_terms, and}
-use Rattle.pz_rules.specs.Settings.{Context}
-use Rattle.pz_rules.specs.Evaluations.{allowance, values_or_trouble}
-use Rattle.pz_rules.specs.devices.Found.{tested, lasting, found_part, left_part}
-use Rattle.pz_rules.specs.devices.Passing.{passed, passed_all, begun, if_open}
-use Rattle.pz_rules.specs.devices.Walk.{ActivePart, Noted, here, under, behind, active_parts, active_children, noted, noted_at, sending, sent_by, received_by, active_sends, active_receives}
+use Rattle.pz_tree_standing.specs.pz_syntax.declared.tokens.Pos.{Pos}
+use Rattle.pz_tree_standing.specs.pz_syntax.Expressions.{Part, left_out, written}
+use Rattle.pz_tree_standing.specs.pz_syntax.Statements as statement
+use Rattle.pz_tree_standing.specs.pz_value.declared.value.ClassId.{ClassId}
+use Rattle.pz_tree_standing.specs.pz_classes_code.declared.slot.Slot.{Slot}
+use Rattle.pz_tree_standing.specs.pz_offer.declared.trouble.Trouble.{Trouble}
+use Rattle.pz_tree_standing.specs.pz_offer.PlaceOrder.{Place}
+use Rattle.pz_tree_standing.specs.pz_eval_rules.Clocks.{names_clock, part_names_clock, DataIsTimeless}
+use Rattle.pz_tree_standing.specs.pz_eval_rules.devices.Laws.{UnclockedListIsComputedTheSame}
+use Rattle.pz_tree_standing.specs.pz_eval_rules.devices.Outcomes.{listed_of, state_after}
+use Rattle.pz_tree_standing.specs.pz_rules.Terms.{Code, Step, Term, done, leaf, wait, sequence, parallel, select, guarded, frame, abort, idle, handling, Terms, no_terms, and}
+use Rattle.pz_tree_standing.specs.pz_rules.Settings.{Context}
+use Rattle.pz_tree_standing.specs.pz_rules.Evaluations.{allowance, values_or_trouble}
+use Rattle.pz_tree_standing.specs.pz_rules.devices.Found.{tested, lasting, found_part, left_part}
+use Rattle.pz_tree_standing.specs.pz_rules.devices.Passing.{passed, passed_all, begun, if_open}
+use Rattle.pz_tree_standing.specs.pz_rules.devices.Walk.{ActivePart, Noted, here, under, behind, active_parts, active_children, noted, noted_at, sending, sent_by, received_by, active_sends, active_receives}
 use Rattle.pz_tree_standing.specs.Steady.{later}
 use Rattle.pz_tree_standing.specs.Woken.{any_part, statement_names_clock, is_clocked, clocked}
 use Rattle.pz_tree_standing.specs.devices.SummaryLaws.{TestIsSteady}

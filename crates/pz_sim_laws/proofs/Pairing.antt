@@ -3,27 +3,27 @@ use Rattle.std.proofs.Common.{◌≡◌, ◌⊎◌, inl, inr, ℕ, Bool, true, f
 use Rattle.std.specs.Prelude.{All, AllPairs, Contains}
 use Rattle.std.proofs.lemmas.Bool.{true≢false}
 use Rattle.std.proofs.lemmas.List.Kept.{AllPairs-filter}
-use Rattle.pz_copy.specs.Parcels.{ParcelView}
-use Rattle.pz_offer.specs.declared.end.End.{End}
-use Rattle.pz_offer.specs.declared.trouble.Trouble.{Trouble}
-use Rattle.pz_offer.specs.declared.ends.Verdict.{Verdict}
-use Rattle.pz_offer.specs.declared.ends.Verdict.TheVariants as says
-use Rattle.pz_offer.specs.PlaceOrder.{EndBefore}
+use Rattle.pz_tree_standing.specs.pz_copy.Parcels.{ParcelView}
+use Rattle.pz_tree_standing.specs.pz_offer.declared.end.End.{End}
+use Rattle.pz_tree_standing.specs.pz_offer.declared.trouble.Trouble.{Trouble}
+use Rattle.pz_tree_standing.specs.pz_offer.declared.ends.Verdict.{Verdict}
+use Rattle.pz_tree_standing.specs.pz_offer.declared.ends.Verdict.TheVariants as says
+use Rattle.pz_tree_standing.specs.pz_offer.PlaceOrder.{EndBefore}
 use Rattle.pz_match.specs.declared.offers.Sender.{Sender}
 use Rattle.pz_match.specs.declared.offers.Receiver.{Receiver}
 use Rattle.pz_match.specs.Offers as match_offers
 use Rattle.pz_match.specs.Pairs as match_pairs
 use Rattle.pz_match.specs.Pairs.{Judged, ArePairs, taken, is_yes, is_trouble, first_or, first_trouble}
-use Rattle.pz_rules.specs.declared.action.Action.{Action}
-use Rattle.pz_rules.specs.declared.action.Action.TheVariants.{Internal, Comm}
-use Rattle.pz_rules.specs.Settings.{Setting}
-use Rattle.pz_rules.specs.Messages.{Receives}
-use Rattle.pz_rules.specs.Ports.{IsWire, HasWires}
-use Rattle.pz_rules.specs.Offers as offers
-use Rattle.pz_rules.specs.Offers.{IsPair, IsJudged, Offers, Before, PairBefore}
-use Rattle.pz_rules.specs.Moments as moments
-use Rattle.pz_rules.specs.Moments.{Source, pair, Troubles}
-use Rattle.pz_rules.specs.devices.Walks.{SendsAreListed, SendsHaveParcels, ReceivesAreListed}
+use Rattle.pz_tree_standing.specs.pz_rules.declared.action.Action.{Action}
+use Rattle.pz_tree_standing.specs.pz_rules.declared.action.Action.TheVariants.{Internal, Comm}
+use Rattle.pz_tree_standing.specs.pz_rules.Settings.{Setting}
+use Rattle.pz_tree_standing.specs.pz_rules.Messages.{Receives}
+use Rattle.pz_tree_standing.specs.pz_rules.Ports.{IsWire, HasWires}
+use Rattle.pz_tree_standing.specs.pz_rules.Offers as offers
+use Rattle.pz_tree_standing.specs.pz_rules.Offers.{IsPair, IsJudged, Offers, Before, PairBefore}
+use Rattle.pz_tree_standing.specs.pz_rules.Moments as moments
+use Rattle.pz_tree_standing.specs.pz_rules.Moments.{Source, pair, Troubles}
+use Rattle.pz_tree_standing.specs.pz_rules.devices.Walks.{SendsAreListed, SendsHaveParcels, ReceivesAreListed}
 use Rattle.pz_part_queries.specs.Laws.{OneVerdict}
 use Rattle.pz_sim_laws.specs.Members.{Member, config_of, AreMembers}
 use Rattle.pz_sim_laws.specs.Offering.{AreSenders, AreReceivers, in_all}

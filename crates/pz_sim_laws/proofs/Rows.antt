@@ -3,24 +3,24 @@ use Rattle.std.proofs.Common.{◌≡◌, ◌<◌, ◌⊎◌, inl, inr, ℕ, List
 use Rattle.std.specs.Prelude.{slice_get, Contains, AllPairs}
 use Rattle.std.specs.Option.{option_map_or}
 use Rattle.std.proofs.lemmas.Option.{same_Some, slice_get_within}
-use Rattle.pz_syntax.specs.declared.tokens.Pos.{Pos}
-use Rattle.pz_copy.specs.Parcels.{ParcelView}
-use Rattle.pz_copy.specs.Packing.{IsParcelOf}
-use Rattle.pz_offer.specs.declared.ends.SendOffer.{SendOffer}
-use Rattle.pz_offer.specs.declared.ends.ReceiveOffer.{ReceiveOffer}
-use Rattle.pz_offer.specs.PlaceOrder.{Place, PlaceBefore}
+use Rattle.pz_tree_standing.specs.pz_syntax.declared.tokens.Pos.{Pos}
+use Rattle.pz_tree_standing.specs.pz_copy.Parcels.{ParcelView}
+use Rattle.pz_tree_standing.specs.pz_copy.Packing.{IsParcelOf}
+use Rattle.pz_tree_standing.specs.pz_offer.declared.ends.SendOffer.{SendOffer}
+use Rattle.pz_tree_standing.specs.pz_offer.declared.ends.ReceiveOffer.{ReceiveOffer}
+use Rattle.pz_tree_standing.specs.pz_offer.PlaceOrder.{Place, PlaceBefore}
 use Rattle.pz_match.specs.declared.offers.Sender.{Sender}
 use Rattle.pz_match.specs.declared.offers.Receiver.{Receiver}
 use Rattle.pz_match.specs.Offers.{sender, senders, receiver}
-use Rattle.pz_rules.specs.Terms.{Term}
-use Rattle.pz_rules.specs.Settings.{Setting, Context}
-use Rattle.pz_rules.specs.Active.{IsActive}
-use Rattle.pz_rules.specs.Messages.{Sends, sends, Receives}
-use Rattle.pz_rules.specs.Ports.{IsWire, HasWires}
-use Rattle.pz_rules.specs.Offers.{PartAt}
-use Rattle.pz_rules.specs.devices.Walk as walk
-use Rattle.pz_rules.specs.devices.Walk.{Noted, active_sends, active_receives}
-use Rattle.pz_rules.specs.devices.Walks.{IsThere, Offering, offering, SendsAreListed, SendsHaveParcels, ReceivesAreListed}
+use Rattle.pz_tree_standing.specs.pz_rules.Terms.{Term}
+use Rattle.pz_tree_standing.specs.pz_rules.Settings.{Setting, Context}
+use Rattle.pz_tree_standing.specs.pz_rules.Active.{IsActive}
+use Rattle.pz_tree_standing.specs.pz_rules.Messages.{Sends, sends, Receives}
+use Rattle.pz_tree_standing.specs.pz_rules.Ports.{IsWire, HasWires}
+use Rattle.pz_tree_standing.specs.pz_rules.Offers.{PartAt}
+use Rattle.pz_tree_standing.specs.pz_rules.devices.Walk as walk
+use Rattle.pz_tree_standing.specs.pz_rules.devices.Walk.{Noted, active_sends, active_receives}
+use Rattle.pz_tree_standing.specs.pz_rules.devices.Walks.{IsThere, Offering, offering, SendsAreListed, SendsHaveParcels, ReceivesAreListed}
 use Rattle.pz_sim_laws.specs.Members.{Member, config_of, AreMembers}
 use Rattle.pz_sim_laws.specs.Offering.{ReachesWire, IsSendOffer, IsReceiveOffer, AreSendOffers, AreReceiveOffers, AreSenders, AreReceivers, in_all}
 use Rattle.pz_sim_laws.proofs.Lists.{Contains-cases, Contains-none, Contains-first, some_there, all_got, in_one, from_one, given_by, gives_there, zip_left, zip_right, zip_ordered}

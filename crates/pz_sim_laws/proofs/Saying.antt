@@ -1,26 +1,26 @@
 -- A receive says to a parcel what is computed, and nothing else.
 use Rattle.std.proofs.Common.{◌≡◌, ◌<◌, ◌≤◌, ◌+◌, ◌⊎◌, inl, inr, ℕ, Bool, true, false, nat_le, if◌then◌else◌, length, Some, None, Result, refl, sym, subst, arith}
 use Rattle.std.proofs.lemmas.Bool.{cases_lt, true≢false}
-use Rattle.pz_syntax.specs.declared.tokens.Pos.{Pos}
-use Rattle.pz_syntax.specs.Statements as statement
-use Rattle.pz_copy.specs.Parcels.{ParcelView}
-use Rattle.pz_state.specs.States.{object_limit}
-use Rattle.pz_state.specs.declared.fault.FaultKind.TheVariants.{StoreFull}
-use Rattle.pz_offer.specs.declared.trouble.Trouble.{Trouble}
-use Rattle.pz_offer.specs.PlaceOrder.{Place}
-use Rattle.pz_eval_rules.specs.Laws.{EachHasAnOutcome}
-use Rattle.pz_rules.specs.Terms.{Code, Step, Term, done, leaf, wait, sequence, parallel, select, guarded, frame, abort, idle, handling}
-use Rattle.pz_rules.specs.Settings.{Context, in_state}
-use Rattle.pz_rules.specs.Evaluations.{allowance, value_or_trouble, Tests}
-use Rattle.pz_rules.specs.Active as active
-use Rattle.pz_rules.specs.Active.{Active, IsActive}
-use Rattle.pz_rules.specs.Acting.{IsReceive}
-use Rattle.pz_rules.specs.Laws.{part_of}
-use Rattle.pz_rules.specs.Meanings.{and_then, truth, fault}
-use Rattle.pz_rules.specs.Messages as messages
-use Rattle.pz_rules.specs.Messages.{Fits, Judges, bound}
-use Rattle.pz_rules.specs.devices.Computed.{TestsAreComputed}
-use Rattle.pz_rules.specs.devices.Found.{tested}
+use Rattle.pz_tree_standing.specs.pz_syntax.declared.tokens.Pos.{Pos}
+use Rattle.pz_tree_standing.specs.pz_syntax.Statements as statement
+use Rattle.pz_tree_standing.specs.pz_copy.Parcels.{ParcelView}
+use Rattle.pz_tree_standing.specs.pz_state.States.{object_limit}
+use Rattle.pz_tree_standing.specs.pz_state.declared.fault.FaultKind.TheVariants.{StoreFull}
+use Rattle.pz_tree_standing.specs.pz_offer.declared.trouble.Trouble.{Trouble}
+use Rattle.pz_tree_standing.specs.pz_offer.PlaceOrder.{Place}
+use Rattle.pz_tree_standing.specs.pz_eval_rules.Laws.{EachHasAnOutcome}
+use Rattle.pz_tree_standing.specs.pz_rules.Terms.{Code, Step, Term, done, leaf, wait, sequence, parallel, select, guarded, frame, abort, idle, handling}
+use Rattle.pz_tree_standing.specs.pz_rules.Settings.{Context, in_state}
+use Rattle.pz_tree_standing.specs.pz_rules.Evaluations.{allowance, value_or_trouble, Tests}
+use Rattle.pz_tree_standing.specs.pz_rules.Active as active
+use Rattle.pz_tree_standing.specs.pz_rules.Active.{Active, IsActive}
+use Rattle.pz_tree_standing.specs.pz_rules.Acting.{IsReceive}
+use Rattle.pz_tree_standing.specs.pz_rules.Laws.{part_of}
+use Rattle.pz_tree_standing.specs.pz_rules.Meanings.{and_then, truth, fault}
+use Rattle.pz_tree_standing.specs.pz_rules.Messages as messages
+use Rattle.pz_tree_standing.specs.pz_rules.Messages.{Fits, Judges, bound}
+use Rattle.pz_tree_standing.specs.pz_rules.devices.Computed.{TestsAreComputed}
+use Rattle.pz_tree_standing.specs.pz_rules.devices.Found.{tested}
 use Rattle.pz_part_queries.specs.Laws.{OneVerdict}
 use Rattle.pz_sim_laws.specs.Couples.{SaysAt}
 use Rattle.pz_sim_laws.specs.Elapsing.{HasReceive}

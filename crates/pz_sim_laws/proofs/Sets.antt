@@ -4,21 +4,21 @@ use Rattle.std.specs.Coded.{Coded, Coded-set, coded_ℕ, coded_list, coded×, co
 use ghost.Sets.{retract_set}
 use mathlib.Core.List.{is_set}
 use Rattle.std.proofs.Math.Nat.{ℕ_set}
-use Rattle.pz_syntax.specs.declared.tokens.Pos.{Pos}
-use Rattle.pz_syntax.specs.Expressions as expression
-use Rattle.pz_syntax.specs.Statements as statement
-use Rattle.pz_syntax.specs.Statements.{Statement, Statements, no_statements, then, Branches, no_branches, branch}
-use Rattle.pz_value.specs.declared.value.ClassId.{ClassId}
-use Rattle.pz_value.specs.contracts.value.ClassId as class_row
-use Rattle.pz_value.specs.declared.value.Value.{Value}
-use Rattle.pz_value.specs.contracts.value.Value as value_row
-use Rattle.pz_classes_code.specs.declared.slot.Slot.{Slot}
-use Rattle.pz_state.specs.Objects.{ObjectView}
-use Rattle.pz_state.specs.States.{StateView}
-use Rattle.pz_rules.specs.Terms.{Step, Steps, Term, done, leaf, wait, sequence, parallel, select, guarded, frame, abort, idle, handling, Terms, no_terms, and}
-use Rattle.pz_rules.specs.Settings.{Process}
-use Rattle.pz_rules.specs.Configurations.{Config}
-use Rattle.pz_rules.specs.devices.Sets.{StatementsAreASet}
+use Rattle.pz_tree_standing.specs.pz_syntax.declared.tokens.Pos.{Pos}
+use Rattle.pz_tree_standing.specs.pz_syntax.Expressions as expression
+use Rattle.pz_tree_standing.specs.pz_syntax.Statements as statement
+use Rattle.pz_tree_standing.specs.pz_syntax.Statements.{Statement, Statements, no_statements, then, Branches, no_branches, branch}
+use Rattle.pz_tree_standing.specs.pz_value.declared.value.ClassId.{ClassId}
+use Rattle.pz_tree_standing.specs.pz_value.contracts.value.ClassId as class_row
+use Rattle.pz_tree_standing.specs.pz_value.declared.value.Value.{Value}
+use Rattle.pz_tree_standing.specs.pz_value.contracts.value.Value as value_row
+use Rattle.pz_tree_standing.specs.pz_classes_code.declared.slot.Slot.{Slot}
+use Rattle.pz_tree_standing.specs.pz_state.Objects.{ObjectView}
+use Rattle.pz_tree_standing.specs.pz_state.States.{StateView}
+use Rattle.pz_tree_standing.specs.pz_rules.Terms.{Step, Steps, Term, done, leaf, wait, sequence, parallel, select, guarded, frame, abort, idle, handling, Terms, no_terms, and}
+use Rattle.pz_tree_standing.specs.pz_rules.Settings.{Process}
+use Rattle.pz_tree_standing.specs.pz_rules.Configurations.{Config}
+use Rattle.pz_tree_standing.specs.pz_rules.devices.Sets.{StatementsAreASet}
 
 -- A term as a statement: its numbers are told by places, its variables by the results of a call.
 

@@ -4,16 +4,16 @@ use Rattle.std.specs.Prelude.{slice_get}
 use Rattle.std.proofs.lemmas.Bool.{cases_lt}
 use Rattle.std.proofs.lemmas.Option.{same_Some, slice_get_within}
 use Rattle.pz_bind_levels.specs.Places.{Address}
-use Rattle.pz_bind.specs.Nest.{processes, class_at}
-use Rattle.pz_offer.specs.declared.end.End.{End}
-use Rattle.pz_offer.specs.PlaceOrder.{Place}
-use Rattle.pz_state.specs.States.{StateView}
-use Rattle.pz_rules.specs.Terms.{Term}
-use Rattle.pz_rules.specs.Settings.{Setting, Process, Context}
-use Rattle.pz_rules.specs.Active.{IsActive}
-use Rattle.pz_rules.specs.Configurations.{Config, Stands}
-use Rattle.pz_rules.specs.Offers.{PartAt}
-use Rattle.pz_rules.specs.devices.Walks.{IsThere}
+use Rattle.pz_tree_standing.specs.pz_bind_rules.Nest.{processes, class_at}
+use Rattle.pz_tree_standing.specs.pz_offer.declared.end.End.{End}
+use Rattle.pz_tree_standing.specs.pz_offer.PlaceOrder.{Place}
+use Rattle.pz_tree_standing.specs.pz_state.States.{StateView}
+use Rattle.pz_tree_standing.specs.pz_rules.Terms.{Term}
+use Rattle.pz_tree_standing.specs.pz_rules.Settings.{Setting, Process, Context}
+use Rattle.pz_tree_standing.specs.pz_rules.Active.{IsActive}
+use Rattle.pz_tree_standing.specs.pz_rules.Configurations.{Config, Stands}
+use Rattle.pz_tree_standing.specs.pz_rules.Offers.{PartAt}
+use Rattle.pz_tree_standing.specs.pz_rules.devices.Walks.{IsThere}
 use Rattle.pz_sim_laws.specs.Members.{Member, process_of, config_of, AreMembers}
 use Rattle.pz_sim_laws.proofs.Lists.{some_there, got_mapped, from_mapped}
 

@@ -3,19 +3,19 @@ use Rattle.std.proofs.Common.{◌≡◌, ◌<◌, ◌≤◌, ◌+◌, ◌-◌, �
 use Rattle.std.specs.Prelude.{slice_get, option_map, All, AllPairs, Contains}
 use Rattle.std.specs.Option.{option_or}
 use Rattle.std.proofs.lemmas.Bool.{cases_lt, true≢false}
-use Rattle.pz_offer.specs.declared.end.End.{End}
-use Rattle.pz_offer.specs.declared.trouble.Trouble.{Trouble}
-use Rattle.pz_offer.specs.PlaceOrder.{Place, PlaceBefore, EndBefore}
-use Rattle.pz_offer.specs.Summaries.{least}
-use Rattle.pz_rules.specs.Terms.{Term, done}
-use Rattle.pz_rules.specs.Settings.{Setting, Process, Context}
-use Rattle.pz_rules.specs.Leaving.{is_done}
-use Rattle.pz_rules.specs.Delays.{Delays}
-use Rattle.pz_rules.specs.Asking.{Asks}
-use Rattle.pz_rules.specs.Offers.{PartAt}
-use Rattle.pz_rules.specs.Moments.{Source, part, pair, Troubles, asked, judged, IsLeft, IsLeast, AllDone}
-use Rattle.pz_rules.specs.devices.Walk.{Noted, active_delays, active_troubles}
-use Rattle.pz_rules.specs.devices.Walks.{IsThere, Lists, DelaysAreListed, TroublesAreListed}
+use Rattle.pz_tree_standing.specs.pz_offer.declared.end.End.{End}
+use Rattle.pz_tree_standing.specs.pz_offer.declared.trouble.Trouble.{Trouble}
+use Rattle.pz_tree_standing.specs.pz_offer.PlaceOrder.{Place, PlaceBefore, EndBefore}
+use Rattle.pz_tree_standing.specs.pz_offer.Summaries.{least}
+use Rattle.pz_tree_standing.specs.pz_rules.Terms.{Term, done}
+use Rattle.pz_tree_standing.specs.pz_rules.Settings.{Setting, Process, Context}
+use Rattle.pz_tree_standing.specs.pz_rules.Leaving.{is_done}
+use Rattle.pz_tree_standing.specs.pz_rules.Delays.{Delays}
+use Rattle.pz_tree_standing.specs.pz_rules.Asking.{Asks}
+use Rattle.pz_tree_standing.specs.pz_rules.Offers.{PartAt}
+use Rattle.pz_tree_standing.specs.pz_rules.Moments.{Source, part, pair, Troubles, asked, judged, IsLeft, IsLeast, AllDone}
+use Rattle.pz_tree_standing.specs.pz_rules.devices.Walk.{Noted, active_delays, active_troubles}
+use Rattle.pz_tree_standing.specs.pz_rules.devices.Walks.{IsThere, Lists, DelaysAreListed, TroublesAreListed}
 use Rattle.pz_tree_standing.specs.Summaries.{least_of, first_of}
 use Rattle.pz_sim_laws.specs.Members.{Member, process_of, config_of, AreMembers}
 use Rattle.pz_sim_laws.specs.Deciding.{unfinished, total_of_all}

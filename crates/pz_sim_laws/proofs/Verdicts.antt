@@ -2,23 +2,23 @@
 use Rattle.std.proofs.Common.{◌≡◌, ℕ, Bool, true, false, List, Result, Ok, Some, refl, sym, subst, ap, ◌∙◌}
 use Rattle.std.specs.Prelude.{slice_get, Contains}
 use Rattle.std.proofs.lemmas.Option.{same_Some}
-use Rattle.pz_copy.specs.Parcels.{ParcelView}
-use Rattle.pz_offer.specs.declared.end.End.{End}
-use Rattle.pz_offer.specs.declared.trouble.Trouble.{Trouble}
-use Rattle.pz_offer.specs.declared.ends.Verdict.{Verdict}
-use Rattle.pz_offer.specs.PlaceOrder.{Place}
+use Rattle.pz_tree_standing.specs.pz_copy.Parcels.{ParcelView}
+use Rattle.pz_tree_standing.specs.pz_offer.declared.end.End.{End}
+use Rattle.pz_tree_standing.specs.pz_offer.declared.trouble.Trouble.{Trouble}
+use Rattle.pz_tree_standing.specs.pz_offer.declared.ends.Verdict.{Verdict}
+use Rattle.pz_tree_standing.specs.pz_offer.PlaceOrder.{Place}
 use Rattle.pz_match.specs.declared.offers.Receiver.{Receiver}
 use Rattle.pz_match.specs.Pairs.{Judged}
-use Rattle.pz_rules.specs.Terms.{Term}
-use Rattle.pz_rules.specs.Settings.{Setting, Process, Context}
-use Rattle.pz_rules.specs.Active as active
-use Rattle.pz_rules.specs.Active.{Active, IsActive}
-use Rattle.pz_rules.specs.Messages.{Receives, Judges}
-use Rattle.pz_rules.specs.Offers.{IsJudged}
-use Rattle.pz_rules.specs.Laws.{WhatReceivesIsAReceive}
-use Rattle.pz_rules.specs.devices.Walk as walk
-use Rattle.pz_rules.specs.devices.Walk.{Noted, active_receives}
-use Rattle.pz_rules.specs.devices.Walks.{IsThere, ReceivesAreListed}
+use Rattle.pz_tree_standing.specs.pz_rules.Terms.{Term}
+use Rattle.pz_tree_standing.specs.pz_rules.Settings.{Setting, Process, Context}
+use Rattle.pz_tree_standing.specs.pz_rules.Active as active
+use Rattle.pz_tree_standing.specs.pz_rules.Active.{Active, IsActive}
+use Rattle.pz_tree_standing.specs.pz_rules.Messages.{Receives, Judges}
+use Rattle.pz_tree_standing.specs.pz_rules.Offers.{IsJudged}
+use Rattle.pz_tree_standing.specs.pz_rules.Laws.{WhatReceivesIsAReceive}
+use Rattle.pz_tree_standing.specs.pz_rules.devices.Walk as walk
+use Rattle.pz_tree_standing.specs.pz_rules.devices.Walk.{Noted, active_receives}
+use Rattle.pz_tree_standing.specs.pz_rules.devices.Walks.{IsThere, ReceivesAreListed}
 use Rattle.pz_part_queries.specs.Laws.{OneVerdict}
 use Rattle.pz_sim_laws.specs.Members.{Member, process_of, config_of, AreMembers}
 use Rattle.pz_sim_laws.specs.Offering.{AreReceivers, in_all}

@@ -1,9 +1,9 @@
 -- Moments that totals and pairs decide, worked out.
 use Rattle.std.proofs.Common.{◌≡◌, ℕ, [], Option, Some, None, refl}
-use Rattle.pz_syntax.specs.declared.tokens.Pos.{Pos}
-use Rattle.pz_offer.specs.declared.trouble.Trouble.{Trouble}
-use Rattle.pz_offer.specs.declared.trouble.Trouble.TheVariants.{Spent}
-use Rattle.pz_rules.specs.declared.moment.Moment.TheVariants.{Actions, Time, Finished, Deadlock, Faulty}
+use Rattle.pz_tree_standing.specs.pz_syntax.declared.tokens.Pos.{Pos}
+use Rattle.pz_tree_standing.specs.pz_offer.declared.trouble.Trouble.{Trouble}
+use Rattle.pz_tree_standing.specs.pz_offer.declared.trouble.Trouble.TheVariants.{Spent}
+use Rattle.pz_tree_standing.specs.pz_rules.declared.moment.Moment.TheVariants.{Actions, Time, Finished, Deadlock, Faulty}
 use Rattle.pz_sim_totals.specs.declared.total.Total.{Total}
 use Rattle.pz_sim_laws.specs.Deciding.{decided}
 

@@ -1,20 +1,20 @@
 -- The pairs of a configuration, each with what its receive says: those of the rules, in their order.
 use Rattle.std.specs.Prelude.{◌≡◌, ℕ, true, false, List, All, AllPairs, Contains, Some, Result, Bool, Ok, Err, slice_get}
-use Rattle.pz_copy.specs.Parcels.{ParcelView}
-use Rattle.pz_offer.specs.declared.end.End.{End}
-use Rattle.pz_offer.specs.declared.trouble.Trouble.{Trouble}
-use Rattle.pz_offer.specs.declared.ends.Verdict.{Verdict}
-use Rattle.pz_offer.specs.declared.ends.Verdict.TheVariants as says
+use Rattle.pz_tree_standing.specs.pz_copy.Parcels.{ParcelView}
+use Rattle.pz_tree_standing.specs.pz_offer.declared.end.End.{End}
+use Rattle.pz_tree_standing.specs.pz_offer.declared.trouble.Trouble.{Trouble}
+use Rattle.pz_tree_standing.specs.pz_offer.declared.ends.Verdict.{Verdict}
+use Rattle.pz_tree_standing.specs.pz_offer.declared.ends.Verdict.TheVariants as says
 use Rattle.pz_match.specs.Pairs.{Judged, Before}
-use Rattle.pz_offer.specs.PlaceOrder.{Place}
-use Rattle.pz_rules.specs.declared.action.Action.{Action}
-use Rattle.pz_rules.specs.declared.action.Action.TheVariants.{Comm}
-use Rattle.pz_rules.specs.Terms.{Term}
-use Rattle.pz_rules.specs.Settings.{Setting, Context}
-use Rattle.pz_rules.specs.Active.{IsActive}
-use Rattle.pz_rules.specs.Messages.{Judges}
-use Rattle.pz_rules.specs.Configurations.{Config}
-use Rattle.pz_rules.specs.Offers.{IsPair, IsJudged}
+use Rattle.pz_tree_standing.specs.pz_offer.PlaceOrder.{Place}
+use Rattle.pz_tree_standing.specs.pz_rules.declared.action.Action.{Action}
+use Rattle.pz_tree_standing.specs.pz_rules.declared.action.Action.TheVariants.{Comm}
+use Rattle.pz_tree_standing.specs.pz_rules.Terms.{Term}
+use Rattle.pz_tree_standing.specs.pz_rules.Settings.{Setting, Context}
+use Rattle.pz_tree_standing.specs.pz_rules.Active.{IsActive}
+use Rattle.pz_tree_standing.specs.pz_rules.Messages.{Judges}
+use Rattle.pz_tree_standing.specs.pz_rules.Configurations.{Config}
+use Rattle.pz_tree_standing.specs.pz_rules.Offers.{IsPair, IsJudged}
 use Rattle.pz_sim_laws.specs.Members.{Member}
 
 -- the value of a condition, in the words of the rules

@@ -1,11 +1,11 @@
 -- The moment, and the offers by their numbers, from what each process can do in short and the pairs.
 use Rattle.std.specs.Prelude.{◌+◌, ◌-◌, ℕ, zero, suc, Bool, true, false, List, length, map, Option, Some, None}
 use Rattle.std.specs.Option.{option_or}
-use Rattle.pz_offer.specs.declared.trouble.Trouble.{Trouble}
+use Rattle.pz_tree_standing.specs.pz_offer.declared.trouble.Trouble.{Trouble}
 use Rattle.pz_match.specs.Pairs.{Judged, taken, first_trouble}
-use Rattle.pz_rules.specs.declared.moment.Moment.{Moment}
-use Rattle.pz_rules.specs.declared.moment.Moment.TheVariants.{Actions, Time, Finished, Deadlock, Faulty}
-use Rattle.pz_rules.specs.Leaving.{is_done}
+use Rattle.pz_tree_standing.specs.pz_rules.declared.moment.Moment.{Moment}
+use Rattle.pz_tree_standing.specs.pz_rules.declared.moment.Moment.TheVariants.{Actions, Time, Finished, Deadlock, Faulty}
+use Rattle.pz_tree_standing.specs.pz_rules.Leaving.{is_done}
 use Rattle.pz_sim_totals.specs.declared.total.Total.{Total}
 use Rattle.pz_sim_totals.specs.Sums as sums
 use Rattle.pz_tree_standing.specs.Summaries.{summary_of}

@@ -1,8 +1,8 @@
 -- How a part acts: by itself, or in a communication with this parcel.
-use Rattle.pz_copy.specs.Parcels.{ParcelView}
-use Rattle.pz_rules.specs.InternalActions.{Performs}
-use Rattle.pz_rules.specs.Messages.{Hands, Takes}
-use Rattle.pz_rules.specs.Steps.{Deed}
+use Rattle.pz_tree_standing.specs.pz_copy.Parcels.{ParcelView}
+use Rattle.pz_tree_standing.specs.pz_rules.InternalActions.{Performs}
+use Rattle.pz_tree_standing.specs.pz_rules.Messages.{Hands, Takes}
+use Rattle.pz_tree_standing.specs.pz_rules.Steps.{Deed}
 
 pub data Manner : Type 0 where
   alone : Manner

@@ -1,11 +1,11 @@
 -- A process before and after a passing of time.
 use Rattle.std.specs.Prelude.{◌≡◌, ℕ}
-use Rattle.pz_offer.specs.PlaceOrder.{Place}
-use Rattle.pz_rules.specs.Terms.{Term}
-use Rattle.pz_rules.specs.Settings.{Context}
-use Rattle.pz_rules.specs.Active.{IsActive}
-use Rattle.pz_rules.specs.Acting.{IsReceive}
-use Rattle.pz_rules.specs.Delays.{Passes}
+use Rattle.pz_tree_standing.specs.pz_offer.PlaceOrder.{Place}
+use Rattle.pz_tree_standing.specs.pz_rules.Terms.{Term}
+use Rattle.pz_tree_standing.specs.pz_rules.Settings.{Context}
+use Rattle.pz_tree_standing.specs.pz_rules.Active.{IsActive}
+use Rattle.pz_tree_standing.specs.pz_rules.Acting.{IsReceive}
+use Rattle.pz_tree_standing.specs.pz_rules.Delays.{Passes}
 use Rattle.pz_tree_standing.specs.Steady.{later}
 use Rattle.pz_sim_laws.specs.Members.{Member}
 

@@ -1,32 +1,32 @@
 -- Laws of systems that are known process by process.
 use Rattle.std.specs.Prelude.{◌≡◌, ◌+◌, ℕ, true, false, not, List, length, map, filter, slice_get, slice_set, Bool, All, AllPairs, Contains, Some, Result, Ok, Err}
-use Rattle.pz_syntax.specs.declared.tokens.Pos.{Pos}
-use Rattle.pz_classes.specs.Soundness.{IsSound}
-use Rattle.pz_copy.specs.Parcels.{ParcelView}
-use Rattle.pz_offer.specs.declared.end.End.{End}
-use Rattle.pz_offer.specs.declared.trouble.Trouble.{Trouble}
-use Rattle.pz_offer.specs.declared.ends.SendOffer.{SendOffer}
-use Rattle.pz_offer.specs.declared.ends.ReceiveOffer.{ReceiveOffer}
-use Rattle.pz_offer.specs.PlaceOrder.{Place, PlaceBefore}
+use Rattle.pz_tree_standing.specs.pz_syntax.declared.tokens.Pos.{Pos}
+use Rattle.pz_tree_standing.specs.pz_classes_rules.Soundness.{IsSound}
+use Rattle.pz_tree_standing.specs.pz_copy.Parcels.{ParcelView}
+use Rattle.pz_tree_standing.specs.pz_offer.declared.end.End.{End}
+use Rattle.pz_tree_standing.specs.pz_offer.declared.trouble.Trouble.{Trouble}
+use Rattle.pz_tree_standing.specs.pz_offer.declared.ends.SendOffer.{SendOffer}
+use Rattle.pz_tree_standing.specs.pz_offer.declared.ends.ReceiveOffer.{ReceiveOffer}
+use Rattle.pz_tree_standing.specs.pz_offer.PlaceOrder.{Place, PlaceBefore}
 use Rattle.pz_match.specs.declared.offers.Sender.{Sender}
 use Rattle.pz_match.specs.declared.offers.Receiver.{Receiver}
 use Rattle.pz_match.specs.Pairs.{Judged, ArePairs, taken, touches}
-use Rattle.pz_rules.specs.declared.action.Kind.{Kind}
-use Rattle.pz_rules.specs.declared.action.Action.TheVariants.{Internal, Comm}
-use Rattle.pz_rules.specs.Terms.{Term}
-use Rattle.pz_rules.specs.Settings.{Setting, Process}
-use Rattle.pz_rules.specs.Ports.{HasWires}
-use Rattle.pz_rules.specs.Heights.{IsLow}
-use Rattle.pz_rules.specs.Moments.{IsMoment}
-use Rattle.pz_rules.specs.Offers.{IsPair}
-use Rattle.pz_rules.specs.Runs.{IsChoice}
-use Rattle.pz_rules.specs.Active.{IsActive}
-use Rattle.pz_rules.specs.Leaving.{settled}
-use Rattle.pz_rules.specs.Configurations.{Config}
-use Rattle.pz_rules.specs.Steps.{Acts, Next, PassesTo}
-use Rattle.pz_rules.specs.Meanings.{and_then}
-use Rattle.pz_rules.specs.devices.Walk as walk
-use Rattle.pz_rules.specs.devices.Walk.{Noted, internal_actions}
+use Rattle.pz_tree_standing.specs.pz_rules.declared.action.Kind.{Kind}
+use Rattle.pz_tree_standing.specs.pz_rules.declared.action.Action.TheVariants.{Internal, Comm}
+use Rattle.pz_tree_standing.specs.pz_rules.Terms.{Term}
+use Rattle.pz_tree_standing.specs.pz_rules.Settings.{Setting, Process}
+use Rattle.pz_tree_standing.specs.pz_rules.Ports.{HasWires}
+use Rattle.pz_tree_standing.specs.pz_rules.Heights.{IsLow}
+use Rattle.pz_tree_standing.specs.pz_rules.Moments.{IsMoment}
+use Rattle.pz_tree_standing.specs.pz_rules.Offers.{IsPair}
+use Rattle.pz_tree_standing.specs.pz_rules.Runs.{IsChoice}
+use Rattle.pz_tree_standing.specs.pz_rules.Active.{IsActive}
+use Rattle.pz_tree_standing.specs.pz_rules.Leaving.{settled}
+use Rattle.pz_tree_standing.specs.pz_rules.Configurations.{Config}
+use Rattle.pz_tree_standing.specs.pz_rules.Steps.{Acts, Next, PassesTo}
+use Rattle.pz_tree_standing.specs.pz_rules.Meanings.{and_then}
+use Rattle.pz_tree_standing.specs.pz_rules.devices.Walk as walk
+use Rattle.pz_tree_standing.specs.pz_rules.devices.Walk.{Noted, internal_actions}
 use Rattle.pz_sim_totals.specs.declared.totals.Found.{Found}
 use Rattle.pz_sim_totals.specs.Sums.{IsAction}
 use Rattle.pz_tree_standing.specs.Woken.{clocked}

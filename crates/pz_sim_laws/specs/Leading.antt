@@ -1,16 +1,16 @@
 -- What the offers of a configuration lead to.
 use Rattle.std.specs.Prelude.{ℕ, Result}
-use Rattle.pz_classes.specs.Soundness.{IsSound}
-use Rattle.pz_offer.specs.declared.trouble.Trouble.{Trouble}
-use Rattle.pz_rules.specs.declared.action.Action.{Action}
-use Rattle.pz_rules.specs.declared.moment.Moment.{Moment}
-use Rattle.pz_rules.specs.declared.moment.Moment.TheVariants.{Time}
-use Rattle.pz_rules.specs.Settings.{Setting}
-use Rattle.pz_rules.specs.Configurations.{Config, IsWhole}
-use Rattle.pz_rules.specs.Fitting.{IsFit}
-use Rattle.pz_rules.specs.Steps.{Next, PassesTo}
-use Rattle.pz_rules.specs.Moments.{IsMoment}
-use Rattle.pz_rules.specs.Runs.{IsChoice}
+use Rattle.pz_tree_standing.specs.pz_classes_rules.Soundness.{IsSound}
+use Rattle.pz_tree_standing.specs.pz_offer.declared.trouble.Trouble.{Trouble}
+use Rattle.pz_tree_standing.specs.pz_rules.declared.action.Action.{Action}
+use Rattle.pz_tree_standing.specs.pz_rules.declared.moment.Moment.{Moment}
+use Rattle.pz_tree_standing.specs.pz_rules.declared.moment.Moment.TheVariants.{Time}
+use Rattle.pz_tree_standing.specs.pz_rules.Settings.{Setting}
+use Rattle.pz_tree_standing.specs.pz_rules.Configurations.{Config, IsWhole}
+use Rattle.pz_tree_standing.specs.pz_rules.Fitting.{IsFit}
+use Rattle.pz_tree_standing.specs.pz_rules.Steps.{Next, PassesTo}
+use Rattle.pz_tree_standing.specs.pz_rules.Moments.{IsMoment}
+use Rattle.pz_tree_standing.specs.pz_rules.Runs.{IsChoice}
 
 -- the offer of this number, among so many, leads to a configuration, or to a trouble
 pub record LeadsTo (setting : Setting) (c : Config) (n k : ℕ) (result : Result Config Trouble) : Type 0 where

@@ -1,10 +1,10 @@
 -- The processes of a system one by one, each with how its statements see it: a configuration, taken apart.
 use Rattle.std.specs.Prelude.{◌≡◌, ℕ, List, length, map, Some, slice_get}
 use Rattle.pz_bind_levels.specs.Places.{Address}
-use Rattle.pz_bind.specs.Nest.{processes, class_at}
-use Rattle.pz_rules.specs.Terms.{Term}
-use Rattle.pz_rules.specs.Settings.{Setting, Process, Context, in_state}
-use Rattle.pz_rules.specs.Configurations.{Config}
+use Rattle.pz_tree_standing.specs.pz_bind_rules.Nest.{processes, class_at}
+use Rattle.pz_tree_standing.specs.pz_rules.Terms.{Term}
+use Rattle.pz_tree_standing.specs.pz_rules.Settings.{Setting, Process, Context, in_state}
+use Rattle.pz_tree_standing.specs.pz_rules.Configurations.{Config}
 
 -- a process: how its statements see it, its state with that, and what is left of it
 pub record Member : Type 0 where

@@ -1,21 +1,21 @@
 -- What processes offer to one another: lists of sends and receives that are those of the rules.
 use Rattle.std.specs.Prelude.{◌≡◌, ℕ, true, false, List, length, Option, Some, None, Ok, slice_get}
 use Rattle.std.specs.List.{AllZip, flat_map}
-use Rattle.pz_syntax.specs.Classes.{ModelTree}
-use Rattle.pz_copy.specs.Parcels.{ParcelView}
-use Rattle.pz_copy.specs.Packing.{IsParcelOf}
-use Rattle.pz_offer.specs.declared.ends.SendOffer.{SendOffer}
-use Rattle.pz_offer.specs.declared.ends.ReceiveOffer.{ReceiveOffer}
+use Rattle.pz_tree_standing.specs.pz_syntax.Classes.{ModelTree}
+use Rattle.pz_tree_standing.specs.pz_copy.Parcels.{ParcelView}
+use Rattle.pz_tree_standing.specs.pz_copy.Packing.{IsParcelOf}
+use Rattle.pz_tree_standing.specs.pz_offer.declared.ends.SendOffer.{SendOffer}
+use Rattle.pz_tree_standing.specs.pz_offer.declared.ends.ReceiveOffer.{ReceiveOffer}
 use Rattle.pz_match.specs.declared.offers.Sender.{Sender}
 use Rattle.pz_match.specs.declared.offers.Receiver.{Receiver}
 use Rattle.pz_match.specs.Offers.{senders, receivers}
-use Rattle.pz_rules.specs.Terms.{Term}
-use Rattle.pz_rules.specs.Settings.{Context}
-use Rattle.pz_rules.specs.Active.{IsActive}
-use Rattle.pz_rules.specs.Messages.{Judges}
-use Rattle.pz_rules.specs.Ports.{IsWire}
-use Rattle.pz_rules.specs.devices.Walk as walk
-use Rattle.pz_rules.specs.devices.Walk.{Noted, active_sends, active_receives}
+use Rattle.pz_tree_standing.specs.pz_rules.Terms.{Term}
+use Rattle.pz_tree_standing.specs.pz_rules.Settings.{Context}
+use Rattle.pz_tree_standing.specs.pz_rules.Active.{IsActive}
+use Rattle.pz_tree_standing.specs.pz_rules.Messages.{Judges}
+use Rattle.pz_tree_standing.specs.pz_rules.Ports.{IsWire}
+use Rattle.pz_tree_standing.specs.pz_rules.devices.Walk as walk
+use Rattle.pz_tree_standing.specs.pz_rules.devices.Walk.{Noted, active_sends, active_receives}
 use Rattle.pz_sim_laws.specs.Members.{Member}
 
 -- the wire that a port of process i reaches, and none where it reaches none

@@ -5,11 +5,13 @@ ghost use Rattle.pz_sim_laws.specs.Leading.{MerelyMoment, MerelyChosen, MerelyLe
 ghost use Rattle.pz_sim_laws.specs.devices.Saying.{SaysWhatIsComputed, SaysNothingElse};
 
 /// Where no term is too high, the moment is what totals and pairs decide.
+use pz_tree_standing::pz_rules::{pz_classes_rules, pz_eval_rules};
+
 pub fn moments_are_decided()
     ensures law { MomentIsDecided }
 {
-    pz_rules::laws::one_list_of_offers();
-    pz_rules::laws::walks_list_what_is_active();
+    pz_tree_standing::pz_rules::laws::one_list_of_offers();
+    pz_tree_standing::pz_rules::laws::walks_list_what_is_active();
     pz_part_queries::laws::one_verdict();
 }
 
@@ -19,7 +21,7 @@ pub fn offers_are_numbered()
     ensures internal { InternalsComeFirst }
     ensures communications { CommunicationsFollow }
 {
-    pz_rules::laws::walks_list_what_is_active();
+    pz_tree_standing::pz_rules::laws::walks_list_what_is_active();
     pz_part_queries::laws::one_verdict();
 }
 
@@ -31,8 +33,8 @@ pub fn pairs_are_those_of_the_rules()
     ensures sends { SendsAreOrdered }
     ensures receives { ReceivesAreOrdered }
 {
-    pz_rules::laws::walks_list_what_is_active();
-    pz_rules::laws::offered_parts_act();
+    pz_tree_standing::pz_rules::laws::walks_list_what_is_active();
+    pz_tree_standing::pz_rules::laws::offered_parts_act();
 }
 
 /// Where one process is replaced, what the others offer and what their receives say stays.
@@ -62,7 +64,7 @@ pub fn receives_say_one_thing()
     ensures only { SaysNothingElse }
 {
     pz_eval_rules::laws::each_evaluation_has_an_outcome();
-    pz_rules::laws::evaluations_are_computed();
+    pz_tree_standing::pz_rules::laws::evaluations_are_computed();
     pz_part_queries::laws::one_verdict();
 }
 
@@ -74,16 +76,16 @@ pub fn what_is_merely_so_is_so()
     ensures leads { MerelyLeads }
     ensures passes { MerelyPasses }
 {
-    pz_classes::laws::sound_bodies_fit();
+    pz_classes_rules::laws::sound_bodies_fit();
     pz_eval_rules::laws::each_evaluation_has_an_outcome();
     pz_eval_rules::laws::each_list_has_an_outcome();
-    pz_rules::laws::wires_are_known();
-    pz_rules::laws::one_list_of_offers();
-    pz_rules::laws::one_moment();
-    pz_rules::laws::one_next();
-    pz_rules::laws::least_passes();
-    pz_rules::laws::active_parts_fit();
-    pz_rules::laws::trees_are_sets();
+    pz_tree_standing::pz_rules::laws::wires_are_known();
+    pz_tree_standing::pz_rules::laws::one_list_of_offers();
+    pz_tree_standing::pz_rules::laws::one_moment();
+    pz_tree_standing::pz_rules::laws::one_next();
+    pz_tree_standing::pz_rules::laws::least_passes();
+    pz_tree_standing::pz_rules::laws::active_parts_fit();
+    pz_tree_standing::pz_rules::laws::trees_are_sets();
 }
 
 /// In a sound model a process that does not name the clock offers the same after a passing of time, and its
@@ -95,8 +97,8 @@ pub fn unclocked_offers_outlast()
 {
     pz_eval_rules::laws::unclocked_is_timeless();
     pz_tree_standing::laws::steady_terms_keep_summaries();
-    pz_rules::laws::passing_is_computed();
-    pz_rules::laws::evaluations_are_computed();
-    pz_rules::laws::walks_list_what_is_active();
-    pz_rules::laws::offered_parts_act();
+    pz_tree_standing::pz_rules::laws::passing_is_computed();
+    pz_tree_standing::pz_rules::laws::evaluations_are_computed();
+    pz_tree_standing::pz_rules::laws::walks_list_what_is_active();
+    pz_tree_standing::pz_rules::laws::offered_parts_act();
 }

@@ -4,3 +4,4 @@ pub mod States
 pub mod References
 pub mod Marks
 pub mod devices
+pub use Rattle.pz_value.specs as pz_value

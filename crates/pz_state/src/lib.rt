@@ -14,5 +14,6 @@ mod values;
 
 pub use fault::FaultKind;
 pub use object::{ARRAY_LIMIT, Object};
+pub use pz_value;
 pub use state::{FrameId, MakeError, OBJECT_LIMIT, Savepoint, State};
 pub use values::nil_values;

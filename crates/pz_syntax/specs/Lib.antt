@@ -20,3 +20,4 @@ pub mod ModelNesting
 pub mod ExpressionErasure
 pub mod StatementErasure
 pub mod ModelErasure
+pub use Rattle.pz_items.specs as pz_items

@@ -15,6 +15,7 @@ pub use clusters::{
 };
 pub use exprs::{Expr, ExprForm, Link, Literal, Sending};
 pub use names::{Id, Name};
+pub use pz_items;
 pub use pz_items::Text;
 pub use stmts::{Stmt, StmtForm};
 pub use tokens::{Keyword, Mark, Pos, Symbol, Token, TokenKind};

@@ -7,10 +7,10 @@ use Rattle.std.proofs.Math.Logic.{∥∥₁_elim}
 use Rattle.std.proofs.Math.Nat.{ℕ_set}
 use Rattle.std.proofs.lemmas.List.{length-map}
 use Rattle.std.proofs.lemmas.Option.{slice_get-map}
-use Rattle.pz_state.specs.States.{variable}
-use Rattle.pz_copy.specs.Parcels.{ParcelView}
-use Rattle.pz_copy.specs.Packing.{IsParcelOf}
-use Rattle.pz_bind.specs.Nest.{processes}
+use Rattle.pz_rules.specs.pz_state.States.{variable}
+use Rattle.pz_rules.specs.pz_copy.Parcels.{ParcelView}
+use Rattle.pz_rules.specs.pz_copy.Packing.{IsParcelOf}
+use Rattle.pz_rules.specs.pz_bind_rules.Nest.{processes}
 use Rattle.pz_bind.specs.NetView.{HasProcess}
 use Rattle.pz_bind.specs.devices.Nets.{IsNet, node_at}
 use Rattle.pz_bind.specs.declared.net.Net.{Net}
@@ -21,7 +21,7 @@ use Rattle.pz_term_processes.specs.Standing.{process_view, config_of, AreProcess
 use Rattle.pz_term.specs.declared.standing.Standing.{Standing}
 use Rattle.pz_term.specs.declared.standing.Standing.TheVariants as standing
 use Rattle.pz_term_enabled.specs.declared.looking.Outlook.{Outlook}
-use Rattle.pz_offer.specs.declared.trouble.Trouble.{Trouble}
+use Rattle.pz_rules.specs.pz_offer.declared.trouble.Trouble.{Trouble}
 use Rattle.pz_term.specs.Plains.{simulation_at}
 use Rattle.pz_term_simulator.specs.Shown.{HoldsValue, IsShown, CanShow}
 use Rattle.pz_term.specs.devices.Holding.{Holds}

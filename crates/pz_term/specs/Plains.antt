@@ -1,7 +1,7 @@
 -- What a plain simulator stands for.
 use Rattle.std.specs.Prelude.{ℕ, List}
-use Rattle.pz_syntax.specs.Classes.{ModelTree}
-use Rattle.pz_classes.specs.CheckedView.{checked_model}
+use Rattle.pz_rules.specs.pz_syntax.Classes.{ModelTree}
+use Rattle.pz_bind.specs.pz_classes.CheckedView.{checked_model}
 use Rattle.pz_rules.specs.Settings.{Setting}
 use Rattle.pz_rules.specs.Runs.{whole, stopped}
 use Rattle.pz_rules.specs.devices.Start.{start_of}

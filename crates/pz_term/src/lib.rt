@@ -8,7 +8,7 @@ mod standing;
 mod vector;
 
 pub use plain::Plain;
-pub use pz_part_opening::open_term;
+pub use pz_term_processes::pz_part_actions::pz_part_opening::open_term;
 pub use pz_term_simulator::{
     Action, ChooseError, Edition, End, Kind, Limits, Moment, Parcel, PassError, Place, Simulator,
     Steps, Term, Trouble, shown_at_start,

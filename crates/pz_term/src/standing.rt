@@ -1,4 +1,4 @@
-use pz_offer::Trouble;
+use pz_rules::pz_offer::Trouble;
 use pz_term_enabled::Outlook;
 
 /// How it is with a simulator.

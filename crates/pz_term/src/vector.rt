@@ -1,7 +1,7 @@
 // The calls on all processes, for those of a vector. The only error is want of memory.
 
 ghost use Rattle.std.specs.Prelude.{◌≡◌, ◌+◌, IfOk, OnOk, OnErr};
-ghost use Rattle.pz_classes.specs.CheckedView.{checked_model};
+ghost use Rattle.pz_bind.specs.pz_classes.CheckedView.{checked_model};
 ghost use Rattle.pz_bind.specs.devices.Nets.{IsNet};
 ghost use Rattle.pz_rules.specs.declared.limits.Edition.TheVariants.{Two};
 ghost use Rattle.pz_rules.specs.CallLaws.{NoRounds};
@@ -14,8 +14,8 @@ ghost use Rattle.pz_term_enabled.specs.Looking.{AreActionsAt};
 ghost use Rattle.pz_term_steps.specs.Stepping.{reached};
 
 use pz_bind::Net;
-use pz_classes::Checked;
-use pz_offer::Trouble;
+use pz_bind::pz_classes::Checked;
+use pz_rules::pz_offer::Trouble;
 use pz_rules::{Action, Limits, Moment};
 use pz_term_enabled::{Outlook, look};
 use pz_term_processes::Process;

@@ -1,17 +1,17 @@
 -- What is noted of delays and sends, from what they are asked.
 use Rattle.std.proofs.Common.{◌≡◌, ◌<◌, ◌^◌, ℕ, List, [], ◌∷◌, ◌++◌, None, Result, Ok, Err, IfOk, Vec, sym, subst, ap, ◌∙◌, arith}
 use Rattle.std.specs.declared.alloc.Global.{Global}
-use Rattle.pz_syntax.specs.declared.tokens.Pos.{Pos}
-use Rattle.pz_syntax.specs.declared.names.Id.{Id}
-use Rattle.pz_syntax.specs.Expressions as ours
-use Rattle.pz_syntax.specs.Statements.{delay, send}
-use Rattle.pz_value.specs.declared.value.ClassId.{ClassId}
-use Rattle.pz_value.specs.declared.value.Value.{Value}
+use Rattle.pz_classes_code.specs.pz_syntax.declared.tokens.Pos.{Pos}
+use Rattle.pz_classes_code.specs.pz_syntax.declared.names.Id.{Id}
+use Rattle.pz_classes_code.specs.pz_syntax.Expressions as ours
+use Rattle.pz_classes_code.specs.pz_syntax.Statements.{delay, send}
+use Rattle.pz_classes_code.specs.pz_value.declared.value.ClassId.{ClassId}
+use Rattle.pz_classes_code.specs.pz_value.declared.value.Value.{Value}
 use Rattle.pz_classes_code.specs.declared.slot.Slot.{Slot}
-use Rattle.pz_state.specs.States.{StateView}
-use Rattle.pz_copy.specs.Parcels.{ParcelView}
-use Rattle.pz_offer.specs.PlaceOrder.{Place}
-use Rattle.pz_offer.specs.declared.trouble.Trouble.{Trouble}
+use Rattle.pz_rules.specs.pz_state.States.{StateView}
+use Rattle.pz_rules.specs.pz_copy.Parcels.{ParcelView}
+use Rattle.pz_rules.specs.pz_offer.PlaceOrder.{Place}
+use Rattle.pz_rules.specs.pz_offer.declared.trouble.Trouble.{Trouble}
 use Rattle.pz_rules.specs.Terms.{Code, leaf}
 use Rattle.pz_rules.specs.Settings.{Context}
 use Rattle.pz_rules.specs.Evaluations.{Lasts, GivesPart}
@@ -19,7 +19,7 @@ use Rattle.pz_rules.specs.devices.Found.{left_part}
 use Rattle.pz_rules.specs.devices.Computed.{TimesAreComputed, PartsAreComputed}
 use Rattle.pz_rules.specs.devices.Walk as walk
 use Rattle.pz_rules.specs.devices.Walk.{here, expiry, answered, trouble_of, sending}
-use Rattle.pz_part_queries.specs.Parcels.{Packs, packs, fails}
+use Rattle.pz_term_processes.specs.pz_part_queries.Parcels.{Packs, packs, fails}
 use Rattle.pz_term_enabled.specs.declared.found.ActiveSend.{ActiveSend}
 use Rattle.pz_term_enabled.specs.declared.found.Found.{Found}
 use Rattle.pz_term_enabled.specs.devices.Listings.{Adds, Notes, notes_of, only_waits, only_troubles}

@@ -7,9 +7,9 @@ use Rattle.std.proofs.lemmas.Option.{same_Some, slice_get_within, slice_get_read
 use Rattle.std.proofs.lemmas.List.{get_or_append_left, get_or_push, get_or-take, length-take-le, length_push, take_more}
 use Rattle.std.proofs.lemmas.List.Elements.{All-contains, Contains-get_or, Contains-append_left, Contains-push, Contains-push_cases}
 use Rattle.std.proofs.lemmas.List.Quantifiers.{all_pairs_push}
-use Rattle.pz_copy.specs.Parcels.{ParcelView}
-use Rattle.pz_offer.specs.declared.end.End.{End}
-use Rattle.pz_offer.specs.declared.trouble.Trouble.{Trouble}
+use Rattle.pz_rules.specs.pz_copy.Parcels.{ParcelView}
+use Rattle.pz_rules.specs.pz_offer.declared.end.End.{End}
+use Rattle.pz_rules.specs.pz_offer.declared.trouble.Trouble.{Trouble}
 use Rattle.pz_rules.specs.declared.action.Action.{Action}
 use Rattle.pz_rules.specs.declared.action.Action.TheVariants.{Comm}
 use Rattle.pz_rules.specs.Settings.{Setting}
@@ -18,7 +18,7 @@ use Rattle.pz_rules.specs.Offers as offers
 use Rattle.pz_rules.specs.Offers.{IsPair, IsJudged, Offers, Before, PairBefore}
 use Rattle.pz_rules.specs.Moments as moments
 use Rattle.pz_rules.specs.Moments.{Source, pair, Troubles}
-use Rattle.pz_part_queries.specs.Laws.{OneVerdict}
+use Rattle.pz_term_processes.specs.pz_part_queries.Laws.{OneVerdict}
 use Rattle.pz_term_matching.specs.declared.ends.Sender.{Sender}
 use Rattle.pz_term_matching.specs.declared.ends.Receiver.{Receiver}
 use Rattle.pz_term_matching.specs.declared.ends.Pair.{Pair}

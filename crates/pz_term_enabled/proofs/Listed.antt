@@ -3,8 +3,8 @@ use Rattle.std.proofs.Common.{◌≡◌, ◌<◌, ◌≤◌, ◌+◌, ◌⊎◌,
 use Rattle.std.specs.List.{All, AllPairs, Contains, filter_map}
 use Rattle.std.proofs.lemmas.Bool.{cases_lt}
 use Rattle.std.proofs.lemmas.List.Elements.{All-nil, All-append, All-weaker, Contains-append_left, Contains-append_right}
-use Rattle.pz_offer.specs.declared.end.End.{End}
-use Rattle.pz_offer.specs.PlaceOrder.{Place, PlaceBefore, EndBefore}
+use Rattle.pz_rules.specs.pz_offer.declared.end.End.{End}
+use Rattle.pz_rules.specs.pz_offer.PlaceOrder.{Place, PlaceBefore, EndBefore}
 use Rattle.pz_term_enabled.specs.devices.Adding.{end_at}
 use Rattle.pz_term_enabled.specs.devices.Below.{Listed}
 use Rattle.pz_term_enabled.proofs.Lists.{AllPairs-nil, AllPairs-append, AllPairs-filter_map, All-filter_map, Contains-filter_map}

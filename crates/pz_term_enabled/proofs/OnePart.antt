@@ -2,11 +2,11 @@
 use Rattle.std.proofs.Common.{◌≡◌, ℕ, zero, suc, List, [], ◌∷◌, ◌++◌, map, Bool, false, Option, Some, None, Vec, refl, sym, subst, ap, ◌∙◌, append-nil}
 use Rattle.std.specs.List.{cons_option}
 use Rattle.std.specs.declared.alloc.Global.{Global}
-use Rattle.pz_syntax.specs.declared.tokens.Pos.{Pos}
-use Rattle.pz_copy.specs.Parcels.{ParcelView}
-use Rattle.pz_copy.specs.Packing.{IsParcelOf}
-use Rattle.pz_offer.specs.PlaceOrder.{Place}
-use Rattle.pz_offer.specs.declared.trouble.Trouble.{Trouble}
+use Rattle.pz_classes_code.specs.pz_syntax.declared.tokens.Pos.{Pos}
+use Rattle.pz_rules.specs.pz_copy.Parcels.{ParcelView}
+use Rattle.pz_rules.specs.pz_copy.Packing.{IsParcelOf}
+use Rattle.pz_rules.specs.pz_offer.PlaceOrder.{Place}
+use Rattle.pz_rules.specs.pz_offer.declared.trouble.Trouble.{Trouble}
 use Rattle.pz_rules.specs.declared.action.Kind.{Kind}
 use Rattle.pz_rules.specs.declared.action.Kind.TheVariants.{Expire}
 use Rattle.pz_rules.specs.Terms.{Term}

@@ -1,7 +1,7 @@
 -- What is noted of parts: of lists end to end, and of parts seen from further out.
 use Rattle.std.proofs.Common.{◌≡◌, ℕ, List, [], ◌∷◌, ◌++◌, map, Option, Some, None, refl, sym, ap, ◌∙◌, append_assoc}
 use Rattle.std.specs.List.{cons_option}
-use Rattle.pz_offer.specs.PlaceOrder.{Place}
+use Rattle.pz_rules.specs.pz_offer.PlaceOrder.{Place}
 use Rattle.pz_rules.specs.Terms.{Term}
 use Rattle.pz_rules.specs.devices.Walk.{ActivePart, here, under, Noted, noted_at, noted}
 use Rattle.pz_term_enabled.specs.devices.Walked.{whats}

@@ -4,15 +4,15 @@ use Rattle.std.specs.Option.{option_map}
 use Rattle.std.proofs.Math.Logic.{∥∥₁_map}
 use Rattle.std.proofs.lemmas.Option.{same_Some, slice_get_within, slice_get-get_or, slice_get-map}
 use Rattle.std.proofs.lemmas.List.{length-map}
-use Rattle.pz_syntax.specs.Classes.{ModelTree}
-use Rattle.pz_classes.specs.declared.classes.Classes.{Classes}
-use Rattle.pz_classes.specs.devices.Rows.{AreClasses}
-use Rattle.pz_copy.specs.Parcels.{ParcelView}
+use Rattle.pz_classes_code.specs.pz_syntax.Classes.{ModelTree}
+use Rattle.pz_bind.specs.pz_classes.declared.classes.Classes.{Classes}
+use Rattle.pz_bind.specs.pz_classes.devices.Rows.{AreClasses}
+use Rattle.pz_rules.specs.pz_copy.Parcels.{ParcelView}
 use Rattle.pz_bind_levels.specs.Places.{Address as ProcessPlace}
-use Rattle.pz_bind.specs.Nest.{class_at}
-use Rattle.pz_offer.specs.declared.end.End.{End}
-use Rattle.pz_offer.specs.declared.trouble.Trouble.{Trouble}
-use Rattle.pz_offer.specs.PlaceOrder.{Place}
+use Rattle.pz_rules.specs.pz_bind_rules.Nest.{class_at}
+use Rattle.pz_rules.specs.pz_offer.declared.end.End.{End}
+use Rattle.pz_rules.specs.pz_offer.declared.trouble.Trouble.{Trouble}
+use Rattle.pz_rules.specs.pz_offer.PlaceOrder.{Place}
 use Rattle.pz_rules.specs.declared.limits.Limits.{Limits}
 use Rattle.pz_rules.specs.Terms.{Term}
 use Rattle.pz_rules.specs.Settings as rules
@@ -25,11 +25,11 @@ use Rattle.pz_rules.specs.Offers.{IsJudged}
 use Rattle.pz_rules.specs.View.{term_view}
 use Rattle.pz_term_residual.specs.Laws.{ActivePartsMayAct}
 use Rattle.pz_rules.specs.Places.{MayAct}
-use Rattle.pz_eval.specs.Known.{AreKnown}
+use Rattle.pz_term_processes.specs.pz_eval.Known.{AreKnown}
 use Rattle.pz_term_processes.specs.declared.process.Process.{Process}
 use Rattle.pz_term_processes.specs.Standing.{setting_of, config_of, process_view}
-use Rattle.pz_part_queries.specs.Parts.{IsPartAt}
-use Rattle.pz_part_queries.specs.Laws.{OneVerdict}
+use Rattle.pz_term_processes.specs.pz_part_queries.Parts.{IsPartAt}
+use Rattle.pz_term_processes.specs.pz_part_queries.Laws.{OneVerdict}
 use Rattle.pz_rules.specs.Acting.{IsReceive}
 use Rattle.pz_rules.specs.Laws.{WhatReceivesIsAReceive}
 use Rattle.pz_term_matching.specs.declared.ends.Receiver.{Receiver}

@@ -3,7 +3,7 @@
 ghost use Rattle.std.specs.Prelude.{◌≡◌, ◌++◌, ℕ, map, slice_get, All, OnOk};
 ghost use Rattle.std.specs.List.{filter_map};
 ghost use Rattle.std.specs.Option.{option_or, option_to_list};
-ghost use Rattle.pz_syntax.specs.Classes.{ModelTree};
+ghost use Rattle.pz_classes_code.specs.pz_syntax.Classes.{ModelTree};
 ghost use Rattle.pz_bind.specs.NetView.{HasProcess};
 ghost use Rattle.pz_term_enabled.specs.devices.Adding as spec;
 ghost use Rattle.pz_term_enabled.specs.devices.Adding.{action_of, sender_of, receiver_of, Adds};
@@ -12,8 +12,8 @@ ghost use Rattle.pz_term_enabled.specs.devices.Seen.{Wired, HasPort, wire_at};
 use crate::findings::Survey;
 use crate::found::{ActiveReceive, ActiveSend, Doing, Found};
 use pz_bind::Net;
-use pz_offer::{End, Trouble};
 use pz_rules::Action;
+use pz_rules::pz_offer::{End, Trouble};
 use pz_term_matching::{Receiver, Sender};
 use std::alloc::AllocError;
 

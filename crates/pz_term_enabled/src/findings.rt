@@ -1,7 +1,7 @@
 ghost use Rattle.std.specs.Prelude.{◌≡◌, [], None, true};
 
-use pz_offer::Trouble;
 use pz_rules::Action;
+use pz_rules::pz_offer::Trouble;
 use pz_term_matching::{Receiver, Sender};
 use std::alloc::Global;
 

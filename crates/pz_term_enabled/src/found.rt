@@ -1,9 +1,9 @@
 ghost use Rattle.std.specs.Prelude.{◌≡◌, []};
 
-use pz_copy::Parcel;
-use pz_offer::{Place, Trouble};
+use pz_classes_code::pz_syntax::{Name, Pos};
 use pz_rules::Kind;
-use pz_syntax::{Name, Pos};
+use pz_rules::pz_copy::Parcel;
+use pz_rules::pz_offer::{Place, Trouble};
 use std::alloc::Global;
 
 /// An internal action that an active part can do.

@@ -2,26 +2,27 @@
 //! they are, always, and the only error is want of memory.
 
 ghost use Rattle.std.specs.Prelude.{◌≡◌, ℕ, All, IfOk};
-ghost use Rattle.pz_syntax.specs.Classes.{ModelTree};
-ghost use Rattle.pz_classes.specs.CheckedView.{checked_model};
+ghost use Rattle.pz_classes_code.specs.pz_syntax.Classes.{ModelTree};
+ghost use Rattle.pz_bind.specs.pz_classes.CheckedView.{checked_model};
 ghost use Rattle.pz_rules.specs.Offers.{IsJudged};
 ghost use Rattle.pz_rules.specs.View.{term_view};
-ghost use Rattle.pz_eval.specs.Known.{AreKnown};
-ghost use Rattle.pz_part_queries.specs.Standpoints.{Knows, seen_from};
+ghost use Rattle.pz_term_processes.specs.pz_eval.Known.{AreKnown};
+ghost use Rattle.pz_term_processes.specs.pz_part_queries.Standpoints.{Knows, seen_from};
 ghost use Rattle.pz_term_processes.specs.Standing.{setting_of, config_of};
 ghost use Rattle.pz_term_matching.specs.Matches.{Fits};
 ghost use Rattle.pz_term_enabled.specs.Surveyed.{IsReceiver, AreSenders, AreReceivers};
 ghost use Rattle.pz_term_enabled.specs.devices.Judged.{HasReceive, JudgesAt, communication_of, OfOne, OfPairs};
 ghost use Rattle.pz_term_enabled.specs.devices.Communications.{OfAll};
 
-use pz_classes::Checked;
-use pz_copy::Parcel;
-use pz_offer::{Place, Trouble};
-use pz_part_queries::{Standpoint, judge, part_at};
+use pz_bind::pz_classes::Checked;
+use pz_rules::pz_copy::Parcel;
+use pz_rules::pz_offer::{Place, Trouble};
+use pz_rules::pz_state::FrameId;
 use pz_rules::{Action, Limits};
-use pz_state::FrameId;
 use pz_term_matching::{Pair, Receiver, Sender, match_ends};
 use pz_term_processes::Process;
+use pz_term_processes::pz_part_actions::pz_part_queries;
+use pz_term_processes::pz_part_actions::pz_part_queries::{Standpoint, judge, part_at};
 use std::alloc::{AllocError, Global};
 
 /// What the receive at this place of a process says to a parcel.

@@ -1,5 +1,5 @@
 ghost use Rattle.std.specs.Prelude.{◌≡◌, IfOk, OnOk};
-ghost use Rattle.pz_classes.specs.CheckedView.{checked_model};
+ghost use Rattle.pz_bind.specs.pz_classes.CheckedView.{checked_model};
 ghost use Rattle.pz_bind.specs.devices.Nets.{IsNet};
 ghost use Rattle.pz_rules.specs.Settings.{Setting};
 ghost use Rattle.pz_rules.specs.Configurations.{Config};
@@ -15,8 +15,8 @@ use crate::findings::Survey;
 use crate::judging::add_communications;
 use crate::surveying::survey;
 use pz_bind::Net;
-use pz_classes::Checked;
-use pz_offer::Trouble;
+use pz_bind::pz_classes::Checked;
+use pz_rules::pz_offer::Trouble;
 use pz_rules::{Action, Limits, Moment};
 use pz_term_processes::Process;
 use std::alloc::{AllocError, Global};

@@ -1,10 +1,10 @@
 // What one active part adds. The state stays as it is, always, and the only error is want of memory.
 
 ghost use Rattle.std.specs.Prelude.{◌≡◌, ◌<◌, ◌^◌, false, [], ◌∷◌, ℕ, length, OnOk};
-ghost use Rattle.pz_syntax.specs.Classes.{ModelTree};
-ghost use Rattle.pz_syntax.specs.Expressions.{Part};
-ghost use Rattle.pz_syntax.specs.Statements as statements;
-ghost use Rattle.pz_value.specs.declared.value.ClassId.{ClassId};
+ghost use Rattle.pz_classes_code.specs.pz_syntax.Classes.{ModelTree};
+ghost use Rattle.pz_classes_code.specs.pz_syntax.Expressions.{Part};
+ghost use Rattle.pz_classes_code.specs.pz_syntax.Statements as statements;
+ghost use Rattle.pz_classes_code.specs.pz_value.declared.value.ClassId.{ClassId};
 ghost use Rattle.pz_classes_code.specs.declared.slot.Slot.{Slot as Variable};
 ghost use Rattle.pz_classes_code.specs.StepView.{view};
 ghost use Rattle.pz_classes_code.specs.CodeView as code;
@@ -12,19 +12,19 @@ ghost use Rattle.pz_rules.specs.Terms as terms;
 ghost use Rattle.pz_rules.specs.Settings.{Context};
 ghost use Rattle.pz_rules.specs.Messages.{variables_of};
 ghost use Rattle.pz_rules.specs.devices.Walk.{here as part_here};
-ghost use Rattle.pz_eval.specs.Known.{AreKnown};
-ghost use Rattle.pz_part_queries.specs.Standpoints.{Knows, seen_from};
+ghost use Rattle.pz_term_processes.specs.pz_eval.Known.{AreKnown};
+ghost use Rattle.pz_term_processes.specs.pz_part_queries.Standpoints.{Knows, seen_from};
 ghost use Rattle.pz_term_enabled.specs.devices.Walked.{has_begun};
 ghost use Rattle.pz_term_enabled.specs.devices.Listings.{Adds, notes_of, nothing, only_does, only_waits, only_troubles, only_receives};
 
 use crate::found::{ActiveReceive, ActiveSend, Doing, Found};
+use pz_classes_code::pz_items::{Items, Shared};
+use pz_classes_code::pz_syntax::{Id, Pos};
 use pz_classes_code::{Code, Slot, Step, StepForm};
-use pz_items::{Items, Shared};
-use pz_offer::{Place, Trouble};
-use pz_part_queries::{Standpoint, ask_parcel, ask_time};
 use pz_rules::Kind;
-use pz_state::{FrameId, State};
-use pz_syntax::{Id, Pos};
+use pz_rules::pz_offer::{Place, Trouble};
+use pz_rules::pz_state::{FrameId, State};
+use pz_term_processes::pz_part_actions::pz_part_queries::{Standpoint, ask_parcel, ask_time};
 use std::alloc::{AllocError, Global};
 
 /// A part that can act by itself.

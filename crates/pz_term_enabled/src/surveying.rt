@@ -1,13 +1,13 @@
 //! The survey of all processes.
 
 ghost use Rattle.std.specs.Prelude.{◌≡◌, ◌+◌, IfOk, OnOk};
-ghost use Rattle.pz_syntax.specs.Classes.{ModelTree};
-ghost use Rattle.pz_classes.specs.CheckedView.{checked_model};
+ghost use Rattle.pz_classes_code.specs.pz_syntax.Classes.{ModelTree};
+ghost use Rattle.pz_bind.specs.pz_classes.CheckedView.{checked_model};
 ghost use Rattle.pz_bind.specs.NetView.{HasProcess};
 ghost use Rattle.pz_bind.specs.devices.Nets.{IsNet};
 ghost use Rattle.pz_rules.specs.Configurations.{Config};
 ghost use Rattle.pz_term_processes.specs.Standing.{setting_of, config_of, AreProcesses};
-ghost use Rattle.pz_eval.specs.Known.{AreKnown};
+ghost use Rattle.pz_term_processes.specs.pz_eval.Known.{AreKnown};
 ghost use Rattle.pz_term_enabled.specs.Surveyed.{IsSurveyed};
 ghost use Rattle.pz_term_enabled.specs.devices.Below.{SurveyedBelow};
 ghost use Rattle.pz_term_enabled.specs.devices.Seen.{IsSeen};
@@ -16,11 +16,11 @@ use crate::adding::add_found;
 use crate::findings::Survey;
 use crate::walking::walk;
 use pz_bind::Net;
-use pz_classes::Checked;
-use pz_part_queries::Standpoint;
+use pz_bind::pz_classes::Checked;
 use pz_rules::Limits;
 use pz_term_processes::Process;
-use pz_term_residual::is_done;
+use pz_term_processes::pz_part_actions::pz_part_opening::is_done;
+use pz_term_processes::pz_part_actions::pz_part_queries::Standpoint;
 use std::alloc::{AllocError, Global};
 
 /// Surveys a process, behind those before it. The process stays as it is, always.

@@ -1,25 +1,25 @@
 //! The walk.
 
 ghost use Rattle.std.specs.Prelude.{◌≡◌, [], ◌∷◌, ◌++◌, ℕ, map, OnOk, IfOk};
-ghost use Rattle.pz_syntax.specs.Classes.{ModelTree};
+ghost use Rattle.pz_classes_code.specs.pz_syntax.Classes.{ModelTree};
 ghost use Rattle.pz_classes_code.specs.CodeView as code;
 ghost use Rattle.pz_rules.specs.Terms as terms;
 ghost use Rattle.pz_rules.specs.View.{term_view, terms_view};
 ghost use Rattle.pz_rules.specs.devices.Walk.{active_parts, active_children, under};
-ghost use Rattle.pz_eval.specs.Known.{AreKnown};
-ghost use Rattle.pz_part_queries.specs.Standpoints.{Knows, seen_from};
+ghost use Rattle.pz_term_processes.specs.pz_eval.Known.{AreKnown};
+ghost use Rattle.pz_term_processes.specs.pz_part_queries.Standpoints.{Knows, seen_from};
 ghost use Rattle.pz_term_enabled.specs.devices.Walked.{IsWalked};
 ghost use Rattle.pz_term_enabled.specs.devices.Listings.{Adds};
 
 use crate::found::Found;
 use crate::noting::{note_left, note_step, note_trouble};
 use pz_classes_code::Code;
-use pz_items::Shared;
-use pz_offer::Place;
-use pz_part_queries::{Standpoint, ask_test};
+use pz_classes_code::pz_items::Shared;
+use pz_classes_code::pz_syntax::Pos;
 use pz_rules::Term;
-use pz_state::{FrameId, State};
-use pz_syntax::Pos;
+use pz_rules::pz_offer::Place;
+use pz_rules::pz_state::{FrameId, State};
+use pz_term_processes::pz_part_actions::pz_part_queries::{Standpoint, ask_test};
 use std::alloc::{AllocError, Global};
 
 #[cycle(walking)]

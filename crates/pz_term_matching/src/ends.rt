@@ -1,5 +1,5 @@
-use pz_copy::Parcel;
 use pz_offer::End;
+use pz_offer::pz_copy::Parcel;
 use pz_syntax::Name;
 
 /// A send that is offered over a wire.

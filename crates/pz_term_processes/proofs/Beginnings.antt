@@ -3,20 +3,20 @@ use Rattle.std.proofs.Common.{◌≡◌, ◌≤◌, ◌<◌, ◌+◌, ◌⊎◌,
 use Rattle.std.specs.Prelude.{slice_get}
 use Rattle.std.specs.Option.{option_map, MatchOption}
 use Rattle.std.proofs.lemmas.Option.{slice_get-map}
-use Rattle.pz_syntax.specs.declared.tokens.Pos.{Pos}
-use Rattle.pz_syntax.specs.declared.names.Id.{Id}
-use Rattle.pz_syntax.specs.Statements.{call}
-use Rattle.pz_syntax.specs.Classes.{ModelTree}
+use Rattle.pz_classes_code.specs.pz_syntax.declared.tokens.Pos.{Pos}
+use Rattle.pz_classes_code.specs.pz_syntax.declared.names.Id.{Id}
+use Rattle.pz_classes_code.specs.pz_syntax.Statements.{call}
+use Rattle.pz_classes_code.specs.pz_syntax.Classes.{ModelTree}
 use Rattle.pz_classes_code.specs.declared.step.Step as code
 use Rattle.pz_classes_code.specs.StepView as step
-use Rattle.pz_classes.specs.Soundness.{IsSound}
-use Rattle.pz_classes.specs.Starts.{init}
+use Rattle.pz_rules.specs.pz_classes_rules.Soundness.{IsSound}
+use Rattle.pz_rules.specs.pz_classes_rules.Starts.{init}
 use Rattle.pz_bind_levels.specs.Places.{Address}
-use Rattle.pz_bind.specs.Nest.{processes, class_at}
-use Rattle.pz_bind.specs.Values.{values_at}
-use Rattle.pz_state.specs.States.{StateView, initial}
-use Rattle.pz_offer.specs.declared.trouble.Trouble.{Trouble}
-use Rattle.pz_offer.specs.declared.trouble.Trouble.TheVariants.{High}
+use Rattle.pz_rules.specs.pz_bind_rules.Nest.{processes, class_at}
+use Rattle.pz_rules.specs.pz_bind_rules.Values.{values_at}
+use Rattle.pz_rules.specs.pz_state.States.{StateView, initial}
+use Rattle.pz_rules.specs.pz_offer.declared.trouble.Trouble.{Trouble}
+use Rattle.pz_rules.specs.pz_offer.declared.trouble.Trouble.TheVariants.{High}
 use Rattle.pz_rules.specs.Terms.{Codes, Step, height}
 use Rattle.pz_rules.specs.Settings.{Setting, Process, Context, Home}
 use Rattle.pz_rules.specs.Opening.{opened}

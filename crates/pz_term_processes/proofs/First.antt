@@ -8,23 +8,23 @@ use Rattle.std.proofs.Math.Bridge.{le_prop}
 use Rattle.std.proofs.lemmas.List.{length-map}
 use Rattle.std.specs.Coded.{coded_list}
 use base.Stored.{Coded-set}
-use Rattle.pz_syntax.specs.Classes.{ModelTree}
-use Rattle.pz_value.specs.declared.value.ClassId.{ClassId}
-use Rattle.pz_value.specs.declared.value.Value.{Value}
-use Rattle.pz_value.specs.declared.value.Value.TheVariants as value
-use Rattle.pz_value.specs.contracts.value.Value as value_contract
+use Rattle.pz_classes_code.specs.pz_syntax.Classes.{ModelTree}
+use Rattle.pz_classes_code.specs.pz_value.declared.value.ClassId.{ClassId}
+use Rattle.pz_classes_code.specs.pz_value.declared.value.Value.{Value}
+use Rattle.pz_classes_code.specs.pz_value.declared.value.Value.TheVariants as value
+use Rattle.pz_classes_code.specs.pz_value.contracts.value.Value as value_contract
 use Rattle.pz_classes_code.specs.declared.step.Step.{Step}
 use Rattle.pz_classes_code.specs.StepView as step
-use Rattle.pz_state.specs.Marks.{Seen, changed}
-use Rattle.pz_state.specs.States.{StateView, initial}
-use Rattle.pz_state.specs.References.{RefersWithin}
-use Rattle.pz_classes.specs.declared.classes.Classes.{Classes}
-use Rattle.pz_classes.specs.Tables.{class_id}
-use Rattle.pz_classes.specs.devices.Rows.{AreClasses}
-use Rattle.pz_classes.specs.Starts.{init}
+use Rattle.pz_rules.specs.pz_state.Marks.{Seen, changed}
+use Rattle.pz_rules.specs.pz_state.States.{StateView, initial}
+use Rattle.pz_rules.specs.pz_state.References.{RefersWithin}
+use Rattle.pz_bind.specs.pz_classes.declared.classes.Classes.{Classes}
+use Rattle.pz_rules.specs.pz_classes_rules.ClassNames.{class_id}
+use Rattle.pz_bind.specs.pz_classes.devices.Rows.{AreClasses}
+use Rattle.pz_rules.specs.pz_classes_rules.Starts.{init}
 use Rattle.pz_bind_levels.specs.Places.{Address}
-use Rattle.pz_bind.specs.Nest.{processes, class_at}
-use Rattle.pz_bind.specs.Values.{values_at}
+use Rattle.pz_rules.specs.pz_bind_rules.Nest.{processes, class_at}
+use Rattle.pz_rules.specs.pz_bind_rules.Values.{values_at}
 use Rattle.pz_bind.specs.NetView.{HasProcess}
 use Rattle.pz_bind.specs.devices.Nets.{IsNet, node_at}
 use Rattle.pz_bind.specs.declared.net.Net.{Net}

@@ -5,21 +5,21 @@ use Rattle.std.proofs.lemmas.List.Elements.{All-map}
 use Rattle.std.specs.List.{All}
 use Rattle.std.specs.Option.{option_map_or, unwrap_or}
 use Rattle.std.specs.Str.{bytes_eq}
-use Rattle.pz_syntax.specs.declared.exprs.Literal.{Literal}
-use Rattle.pz_syntax.specs.declared.exprs.Literal.TheVariants as literal
-use Rattle.pz_syntax.specs.declared.clusters.Arg.{Arg}
-use Rattle.pz_syntax.specs.declared.clusters.Arg.TheVariants.{Plain, Negated, Parameter}
-use Rattle.pz_syntax.specs.declared.clusters.Given.{Given}
-use Rattle.pz_syntax.specs.declared.clusters.Instance.{Instance}
-use Rattle.pz_syntax.specs.Classes.{ModelTree}
-use Rattle.pz_value.specs.declared.value.Value.{Value}
-use Rattle.pz_value.specs.declared.value.Value.TheVariants.{Nil}
-use Rattle.pz_state.specs.References.{RefersWithin}
-use Rattle.pz_classes.specs.Members.{variables, spelled}
+use Rattle.pz_classes_code.specs.pz_syntax.declared.exprs.Literal.{Literal}
+use Rattle.pz_classes_code.specs.pz_syntax.declared.exprs.Literal.TheVariants as literal
+use Rattle.pz_classes_code.specs.pz_syntax.declared.clusters.Arg.{Arg}
+use Rattle.pz_classes_code.specs.pz_syntax.declared.clusters.Arg.TheVariants.{Plain, Negated, Parameter}
+use Rattle.pz_classes_code.specs.pz_syntax.declared.clusters.Given.{Given}
+use Rattle.pz_classes_code.specs.pz_syntax.declared.clusters.Instance.{Instance}
+use Rattle.pz_classes_code.specs.pz_syntax.Classes.{ModelTree}
+use Rattle.pz_classes_code.specs.pz_value.declared.value.Value.{Value}
+use Rattle.pz_classes_code.specs.pz_value.declared.value.Value.TheVariants.{Nil}
+use Rattle.pz_rules.specs.pz_state.References.{RefersWithin}
+use Rattle.pz_rules.specs.pz_classes_rules.Members.{variables, spelled}
 use Rattle.pz_bind_levels.specs.Places.{Address}
 use Rattle.pz_classes_code.specs.Literals.{constant}
-use Rattle.pz_bind.specs.Nest.{class_at, instance_at}
-use Rattle.pz_bind.specs.Values.{argument_value, given_value, parameter_at, values_at}
+use Rattle.pz_rules.specs.pz_bind_rules.Nest.{class_at, instance_at}
+use Rattle.pz_rules.specs.pz_bind_rules.Values.{argument_value, given_value, parameter_at, values_at}
 
 module _ (count : ℕ) where
   abbrev IsPlain : Value → Type 0

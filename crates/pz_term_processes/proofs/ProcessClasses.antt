@@ -5,14 +5,14 @@ use Rattle.std.specs.Option.{option_map_or}
 use Rattle.std.proofs.Math.Logic.{∥∥₁_elim}
 use Rattle.std.proofs.Math.Nat.{ℕ_set}
 use Rattle.std.proofs.Math.Bool.{Bool-set}
-use Rattle.pz_syntax.specs.Classes.{ModelTree}
-use Rattle.pz_value.specs.declared.value.ClassId.{ClassId}
-use Rattle.pz_classes.specs.Kinds.{is_process}
-use Rattle.pz_classes.specs.Numbers.{declaration}
-use Rattle.pz_classes.specs.Tables.{class_id}
+use Rattle.pz_classes_code.specs.pz_syntax.Classes.{ModelTree}
+use Rattle.pz_classes_code.specs.pz_value.declared.value.ClassId.{ClassId}
+use Rattle.pz_rules.specs.pz_classes_rules.Kinds.{is_process}
+use Rattle.pz_rules.specs.pz_classes_rules.Numbers.{declaration}
+use Rattle.pz_rules.specs.pz_classes_rules.ClassNames.{class_id}
 use Rattle.pz_bind_levels.specs.Places as levels
 use Rattle.pz_bind.specs.declared.net.Net.{Net}
-use Rattle.pz_bind.specs.Nest.{processes, class_at}
+use Rattle.pz_rules.specs.pz_bind_rules.Nest.{processes, class_at}
 use Rattle.pz_bind.specs.NetView.{HasProcess}
 use Rattle.pz_bind.specs.devices.Nets.{IsNet}
 use Rattle.pz_rules.specs.Laws.{ProcessesHaveClasses}

@@ -1,6 +1,6 @@
 -- The configuration that processes of the code stand for.
 use Rattle.std.specs.Prelude.{ℕ, List, map}
-use Rattle.pz_syntax.specs.Classes.{ModelTree}
+use Rattle.pz_classes_code.specs.pz_syntax.Classes.{ModelTree}
 use Rattle.pz_rules.specs.declared.limits.Limits.{Limits}
 use Rattle.pz_rules.specs.View.{term_view}
 use Rattle.pz_rules.specs.Settings as rules

@@ -1,6 +1,6 @@
 -- How a model starts, in the code's words.
 use Rattle.std.specs.Prelude.{List}
-use Rattle.pz_offer.specs.declared.trouble.Trouble.{Trouble}
+use Rattle.pz_rules.specs.pz_offer.declared.trouble.Trouble.{Trouble}
 use Rattle.pz_rules.specs.Settings.{Setting}
 use Rattle.pz_rules.specs.Heights.{IsLow}
 use Rattle.pz_rules.specs.devices.Start.{start_of}

@@ -1,22 +1,22 @@
 ghost use Rattle.std.specs.Prelude.{◌≡◌, Some, slice_get};
-ghost use Rattle.pz_syntax.specs.Classes.{ModelTree};
-ghost use Rattle.pz_classes.specs.CheckedView.{checked_model};
-ghost use Rattle.pz_classes.specs.declared.classes.Classes.{Classes};
-ghost use Rattle.pz_classes.specs.Tables.{HasClass};
-ghost use Rattle.pz_classes.specs.devices.Rows.{AreClasses};
+ghost use Rattle.pz_classes_code.specs.pz_syntax.Classes.{ModelTree};
+ghost use Rattle.pz_bind.specs.pz_classes.CheckedView.{checked_model};
+ghost use Rattle.pz_bind.specs.pz_classes.declared.classes.Classes.{Classes};
+ghost use Rattle.pz_bind.specs.pz_classes.Tables.{HasClass};
+ghost use Rattle.pz_bind.specs.pz_classes.devices.Rows.{AreClasses};
 ghost use Rattle.pz_bind_levels.specs.Places.{Address};
-ghost use Rattle.pz_bind.specs.Nest.{processes};
+ghost use Rattle.pz_rules.specs.pz_bind_rules.Nest.{processes};
 ghost use Rattle.pz_bind.specs.NetView.{HasProcess};
 ghost use Rattle.pz_bind.specs.devices.Nets.{IsNet};
 ghost use Rattle.pz_rules.specs.declared.limits.Edition.TheVariants.{Two};
 ghost use Rattle.pz_rules.specs.CallLaws.{NoRounds};
-ghost use Rattle.pz_part_opening.specs.Homes.{home_view};
+ghost use Rattle.pz_part_actions.specs.pz_part_opening.Homes.{home_view};
 ghost use Rattle.pz_rules.specs.Starting.{home_at as rules_home};
 ghost use Rattle.pz_term_processes.specs.Standing.{setting_of};
 
 use pz_bind::Net;
-use pz_classes::Checked;
-use pz_part_opening::Home;
+use pz_bind::pz_classes::Checked;
+use pz_part_actions::pz_part_opening::Home;
 use pz_rules::Limits;
 
 /// Where the statements of a process open. In edition Two no method of the model begins with itself.

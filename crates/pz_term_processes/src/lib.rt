@@ -9,4 +9,5 @@ mod starting;
 
 pub use homes::home_at;
 pub use process::Process;
+pub use pz_part_actions;
 pub use starting::{Started, start};

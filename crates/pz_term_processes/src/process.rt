@@ -1,5 +1,5 @@
 use pz_rules::Term;
-use pz_state::State;
+use pz_rules::pz_state::State;
 
 /// A process: what is left of it, and its state.
 pub struct Process {

@@ -1,10 +1,10 @@
 // The processes before the first step. The only error is want of memory.
 
 ghost use Rattle.std.specs.Prelude.{◌≡◌, ℕ, [], Some, length, slice_get, All, IfOk, MatchOption};
-ghost use Rattle.pz_classes.specs.CheckedView.{checked_model};
-ghost use Rattle.pz_state.specs.References.{RefersWithin};
+ghost use Rattle.pz_bind.specs.pz_classes.CheckedView.{checked_model};
+ghost use Rattle.pz_rules.specs.pz_state.References.{RefersWithin};
 ghost use Rattle.pz_bind_levels.specs.Places.{Address};
-ghost use Rattle.pz_bind.specs.Nest as nest;
+ghost use Rattle.pz_rules.specs.pz_bind_rules.Nest as nest;
 ghost use Rattle.pz_bind.specs.NetView.{HasProcess};
 ghost use Rattle.pz_bind.specs.devices.Nets.{IsNet};
 ghost use Rattle.pz_rules.specs.declared.limits.Edition.TheVariants.{Two};
@@ -19,13 +19,13 @@ ghost use Rattle.pz_term_processes.specs.Standing.{setting_of, process_view, con
 use crate::homes::home_at;
 use crate::process::Process;
 use pz_bind::Net;
-use pz_classes::Checked;
-use pz_offer::Trouble;
-use pz_part_opening::{open_step, step_within};
+use pz_bind::pz_classes::Checked;
+use pz_classes_code::pz_value::Value;
+use pz_part_actions::pz_part_opening::{open_step, step_within};
 use pz_rules::Limits;
-use pz_state::State;
-use pz_term_residual::sweep;
-use pz_value::Value;
+use pz_rules::pz_offer::Trouble;
+use pz_rules::pz_state::State;
+use pz_term_frames::sweep;
 use std::alloc::{AllocError, Global};
 
 /// Equal values.
@@ -54,7 +54,7 @@ fn first_of(
         slice_get (nest.processes (checked_model checked.now)) process ≡ Some place →
         StartsAs (setting_of (checked_model checked.now) limits) place (process_view first)) }
 {
-    pz_classes::laws::sound_classes_fit();
+    pz_rules::pz_classes_rules::laws::sound_classes_fit();
     pz_rules::laws::trees_are_sets();
     let _model = checked.model();
     let Some(call) = checked.classes().init(net.class(process)) else {
@@ -77,7 +77,7 @@ fn too_high(checked: &Checked, net: &Net, limits: Limits, process: u32) -> Optio
         (BeginsLow (setting_of (checked_model checked.now) limits) process)
         (BeginsHigh (setting_of (checked_model checked.now) limits) process) }
 {
-    pz_classes::laws::sound_classes_fit();
+    pz_rules::pz_classes_rules::laws::sound_classes_fit();
     pz_rules::laws::trees_are_sets();
     let _model = checked.model();
     let Some(call) = checked.classes().init(net.class(process)) else {

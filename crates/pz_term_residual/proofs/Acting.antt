@@ -2,7 +2,7 @@
 use Rattle.std.proofs.Common.{ℕ}
 use Rattle.pz_rules.specs.Terms.{Term, done, leaf, wait, sequence, parallel, select, guarded, frame, abort, idle, handling}
 use Rattle.pz_rules.specs.Settings.{Context}
-use Rattle.pz_offer.specs.PlaceOrder.{Place}
+use Rattle.pz_rules.specs.pz_offer.PlaceOrder.{Place}
 use Rattle.pz_rules.specs.Active as active
 use Rattle.pz_rules.specs.Active.{Reached, Active}
 use Rattle.pz_rules.specs.Places.{MayActIn, MayAct}

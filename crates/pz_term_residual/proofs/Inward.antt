@@ -2,7 +2,7 @@
 use Rattle.std.proofs.Common.{◌≡◌, ◌<◌, ℕ, zero, suc, List, [], ◌∷◌, length, Some, slice_get, slice_set, refl, sym, subst, ap, ◌∙◌, arith, rules}
 use Rattle.std.proofs.lemmas.List.{length-set}
 use Rattle.std.proofs.lemmas.Option.{same_Some, none-some}
-use Rattle.pz_state.specs.declared.state.FrameId.{FrameId}
+use Rattle.pz_rules.specs.pz_state.declared.state.FrameId.{FrameId}
 use Rattle.pz_rules.specs.declared.term.Term.{Term}
 use Rattle.pz_rules.specs.declared.term.Term.TheVariants as form
 use Rattle.pz_rules.specs.declared.term.Term.TheFolds.{the_lemmas}

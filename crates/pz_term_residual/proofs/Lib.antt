@@ -1,15 +1,6 @@
-mod Capping
 mod Forms
-mod Outlined
-mod Rounds
-mod Beside
 mod Residuals
 mod Unwinding
 mod Inward
 mod Outward
-mod Standing
-mod Closing
-mod Views
-mod SlotsSet
 mod Acting
-mod AroundLevels

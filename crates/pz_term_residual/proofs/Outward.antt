@@ -3,8 +3,8 @@ use Rattle.std.proofs.Common.{◌≡◌, ℕ, List, sym, subst, ap}
 use Rattle.pz_classes_code.specs.declared.slot.Slot.{Slot}
 use Rattle.pz_classes_code.specs.declared.step.Step.{Step}
 use Rattle.pz_classes_code.specs.StepView.{view, sequence_view}
-use Rattle.pz_state.specs.declared.state.FrameId.{FrameId}
-use Rattle.pz_state.specs.Marks.{Seen}
+use Rattle.pz_rules.specs.pz_state.declared.state.FrameId.{FrameId}
+use Rattle.pz_rules.specs.pz_state.Marks.{Seen}
 use Rattle.pz_rules.specs.declared.term.Term as code
 use Rattle.pz_rules.specs.Terms.{Term, done, sequence, frame}
 use Rattle.pz_rules.specs.Settings.{Process, left_by, Home}

@@ -1,7 +1,7 @@
 -- Outlines of a term whose part at a place has become another, form by form.
 use Rattle.std.proofs.Common.{◌≡◌, ◌<◌, ℕ, zero, suc, List, ◌∷◌, ◌++◌, length, take, drop, get_or, sym, subst, ap, ◌∙◌, arith}
 use Rattle.pz_classes_code.specs.declared.slot.Slot.{Slot}
-use Rattle.pz_offer.specs.PlaceOrder.{Place}
+use Rattle.pz_rules.specs.pz_offer.PlaceOrder.{Place}
 use Rattle.pz_rules.specs.declared.term.Term.{Term}
 use Rattle.pz_rules.specs.Terms as terms
 use Rattle.pz_rules.specs.Terms.{Code, Step, Steps, sequence, parallel, select, guarded, frame, abort, idle, handling, Terms, count, term_at, child, frame_in}
@@ -9,9 +9,9 @@ use Rattle.pz_rules.specs.View.{term_view, terms_view}
 use Rattle.pz_rules.specs.Places.{MayAct}
 use Rattle.pz_rules.specs.Settings.{left_by, Home}
 use Rattle.pz_rules.specs.Leaving.{residual}
-use Rattle.pz_term_residual.specs.declared.outline.Outline.{Outline}
-use Rattle.pz_term_residual.specs.Outlines.{IsRound, IsLeft}
-use Rattle.pz_term_residual.proofs.Beside.{count_is, part_is, part_at, parted}
+use Rattle.pz_term_outlines.specs.declared.outline.Outline.{Outline}
+use Rattle.pz_term_outlines.specs.Outlines.{IsRound, IsLeft}
+use Rattle.pz_term_outlines.proofs.Beside.{count_is, part_is, part_at, parted}
 
 -- where a part may act
 

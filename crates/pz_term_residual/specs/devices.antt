@@ -1,2 +1,1 @@
 pub mod Unwound
-pub mod Swept

@@ -8,15 +8,15 @@ ghost use Rattle.pz_rules.specs.View.{term_view, terms_view};
 ghost use Rattle.pz_rules.specs.Places.{MayActIn};
 ghost use Rattle.pz_rules.specs.Becoming.{Became};
 ghost use Rattle.pz_rules.specs.Settings.{left_by};
-ghost use Rattle.pz_part_opening.specs.Homes.{home_view};
+ghost use Rattle.pz_term_around.specs.pz_part_opening.Homes.{home_view};
 ghost use Rattle.pz_term_residual.specs.devices.Unwound.{put_round, HasItsPlace, IsInside};
 
-use crate::{in_abort, in_frame, in_handling, in_interrupt, in_parallel, in_sequence};
+use pz_classes_code::pz_items::{Boxed, Items, Shared};
 use pz_classes_code::{Slot, Step};
-use pz_items::{Boxed, Items, Shared};
-use pz_part_opening::Home;
+use pz_rules::pz_state::{FrameId, State};
 use pz_rules::{Rest, Term};
-use pz_state::{FrameId, State};
+use pz_term_around::pz_part_opening::Home;
+use pz_term_around::{in_abort, in_frame, in_handling, in_interrupt, in_parallel, in_sequence};
 use std::alloc::{AllocError, Global};
 use std::mem;
 

@@ -1,7 +1,7 @@
 //! How high a term becomes, before anything is changed.
 
 ghost use Rattle.std.specs.Prelude.{◌≡◌, ◌∷◌, ℕ, nat_le};
-ghost use Rattle.pz_state.specs.States.{StateView};
+ghost use Rattle.pz_rules.specs.pz_state.States.{StateView};
 ghost use Rattle.pz_classes_code.specs.StepView.{view};
 ghost use Rattle.pz_rules.specs.Terms as terms;
 ghost use Rattle.pz_rules.specs.Terms.{height};
@@ -9,17 +9,16 @@ ghost use Rattle.pz_rules.specs.View.{term_view, terms_view};
 ghost use Rattle.pz_rules.specs.Places.{MayAct};
 ghost use Rattle.pz_rules.specs.Settings.{left_by};
 ghost use Rattle.pz_rules.specs.Leaving.{residual};
-ghost use Rattle.pz_part_opening.specs.Homes.{home_view};
-ghost use Rattle.pz_term_residual.specs.Outlines.{IsLeft};
+ghost use Rattle.pz_term_around.specs.pz_part_opening.Homes.{home_view};
+ghost use Rattle.pz_term_outlines.specs.Outlines.{IsLeft};
 
-use crate::heights::height_of;
-use crate::outline::{
-    Outline, outline_first, outline_frame, outline_of, outline_parallel, outline_second,
+use pz_classes_code::Step;
+use pz_rules::Term;
+use pz_term_around::pz_part_opening::Home;
+use pz_term_outlines::{
+    Outline, height_of, outline_first, outline_frame, outline_of, outline_parallel, outline_second,
     outline_sequence,
 };
-use pz_classes_code::Step;
-use pz_part_opening::Home;
-use pz_rules::Term;
 
 /// Of a term once its part at the place has become one of this outline. A part at the place may act.
 #[cycle(outlines)]

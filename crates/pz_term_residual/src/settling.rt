@@ -6,14 +6,14 @@ ghost use Rattle.pz_rules.specs.Leaving.{residual, swept};
 ghost use Rattle.pz_rules.specs.View.{term_view};
 ghost use Rattle.pz_rules.specs.Places.{MayAct};
 ghost use Rattle.pz_rules.specs.Becoming.{Became};
-ghost use Rattle.pz_part_opening.specs.Homes.{home_view};
+ghost use Rattle.pz_term_around.specs.pz_part_opening.Homes.{home_view};
 ghost use Rattle.pz_term_residual.specs.devices.Unwound.{unwound, HasItsPlace};
 
 use crate::levels::{Inside, Level, put_around, step_in};
-use crate::sweeping::sweep;
-use pz_part_opening::Home;
 use pz_rules::Term;
-use pz_state::{FrameId, State};
+use pz_rules::pz_state::{FrameId, State};
+use pz_term_around::pz_part_opening::Home;
+use pz_term_frames::sweep;
 use std::alloc::{AllocError, Global};
 
 /// What is around the part at the place of a term that stands in no frame, from the whole term to the

@@ -3,21 +3,21 @@
 use Rattle.std.proofs.Common.{◌≡◌, ◌∙◌, ℕ, zero, suc, List, [], ◌∷◌, ◌++◌, map, Option, Some, None, refl, subst, sym}
 use Rattle.std.specs.Prelude.{slice_get, unwrap_or, take}
 use Rattle.std.specs.List.{flat_map}
-use Rattle.pz_syntax.specs.Expressions.{none, more}
-use Rattle.pz_syntax.specs.Statements.{skip, delay, bracketed, block, guarded, parallel, select, conditional, repeated, abort, interrupt, send, receive, call, assignment, value, no_statements, then, Branches, no_branches, branch}
-use Rattle.pz_value.specs.declared.value.ClassId.{ClassId}
-use Rattle.pz_value.specs.declared.value.Value.{Value}
-use Rattle.pz_classes_code.specs.declared.slot.Slot.{Slot}
-use Rattle.pz_classes.specs.Bodies.{BodyTree, data_body, process_body}
-use Rattle.pz_classes.specs.Starts.{init}
-use Rattle.pz_state.specs.Objects.{ObjectView}
-use Rattle.pz_state.specs.States.{StateView, initial, value_at, variable, no_object, opened as with_frame}
-use Rattle.pz_copy.specs.Parcels.{ParcelView}
-use Rattle.pz_copy.specs.References.{references, IsIn, renumbered_object}
-use Rattle.pz_copy.specs.Packing.{IsParcelOf, firsts, place_in}
+use Rattle.pz_rules.specs.pz_syntax.Expressions.{none, more}
+use Rattle.pz_rules.specs.pz_syntax.Statements.{skip, delay, bracketed, block, guarded, parallel, select, conditional, repeated, abort, interrupt, send, receive, call, assignment, value, no_statements, then, Branches, no_branches, branch}
+use Rattle.pz_rules.specs.pz_value.declared.value.ClassId.{ClassId}
+use Rattle.pz_rules.specs.pz_value.declared.value.Value.{Value}
+use Rattle.pz_rules.specs.pz_classes_code.declared.slot.Slot.{Slot}
+use Rattle.pz_rules.specs.pz_classes_rules.Bodies.{BodyTree, data_body, process_body}
+use Rattle.pz_rules.specs.pz_classes_rules.Starts.{init}
+use Rattle.pz_rules.specs.pz_state.Objects.{ObjectView}
+use Rattle.pz_rules.specs.pz_state.States.{StateView, initial, value_at, variable, no_object, opened as with_frame}
+use Rattle.pz_rules.specs.pz_copy.Parcels.{ParcelView}
+use Rattle.pz_rules.specs.pz_copy.References.{references, IsIn, renumbered_object}
+use Rattle.pz_rules.specs.pz_copy.Packing.{IsParcelOf, firsts, place_in}
 use Rattle.pz_bind_levels.specs.Places.{Address}
-use Rattle.pz_bind.specs.Nest.{class_at}
-use Rattle.pz_bind.specs.Values.{values_at}
+use Rattle.pz_rules.specs.pz_bind_rules.Nest.{class_at}
+use Rattle.pz_rules.specs.pz_bind_rules.Values.{values_at}
 use Rattle.pz_rules.specs.declared.limits.Edition.{Edition}
 use Rattle.pz_rules.specs.declared.limits.Edition.TheVariants.{One, Two}
 use Rattle.pz_rules.specs.Terms.{Step, Steps}

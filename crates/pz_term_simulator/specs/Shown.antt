@@ -1,9 +1,9 @@
 -- What a variable of a process holds at the moment.
 use Rattle.std.specs.Prelude.{◌≡◌, ◌<◌, ℕ, [], ◌∷◌, length, Some, slice_get}
-use Rattle.pz_state.specs.States.{variable}
-use Rattle.pz_copy.specs.Parcels.{ParcelView}
-use Rattle.pz_copy.specs.Packing.{IsParcelOf}
-use Rattle.pz_bind.specs.Nest.{processes}
+use Rattle.pz_rules.specs.pz_state.States.{variable}
+use Rattle.pz_rules.specs.pz_copy.Parcels.{ParcelView}
+use Rattle.pz_rules.specs.pz_copy.Packing.{IsParcelOf}
+use Rattle.pz_rules.specs.pz_bind_rules.Nest.{processes}
 use Rattle.pz_rules.specs.Settings.{Process}
 use Rattle.pz_rules.specs.Configurations.{Config}
 use Rattle.pz_term_simulator.specs.Simulations.{Simulation, stands, broken}

@@ -1,7 +1,7 @@
 -- What a simulator stands for, and how it goes on.
 use Rattle.std.specs.Prelude.{◌≡◌, ℕ, List, [], Some, Ok, Err, slice_get}
-use Rattle.pz_syntax.specs.Classes.{ModelTree}
-use Rattle.pz_offer.specs.declared.trouble.Trouble.{Trouble}
+use Rattle.pz_rules.specs.pz_syntax.Classes.{ModelTree}
+use Rattle.pz_rules.specs.pz_offer.declared.trouble.Trouble.{Trouble}
 use Rattle.pz_rules.specs.declared.action.Action.{Action}
 use Rattle.pz_rules.specs.declared.moment.Moment.{Moment}
 use Rattle.pz_rules.specs.declared.moment.Moment.TheVariants.{Actions, Time, Stopped, Broken}

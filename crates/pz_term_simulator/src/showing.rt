@@ -1,10 +1,10 @@
 // What a variable holds, as a parcel of its one value. The only error is want of memory.
 
 ghost use Rattle.std.specs.Prelude.{◌≡◌, [], ◌∷◌, IfOk, All};
-ghost use Rattle.pz_syntax.specs.Classes.{ModelTree};
-ghost use Rattle.pz_state.specs.References.{RefersWithin};
-ghost use Rattle.pz_state.specs.States.{initial, value_at, variable as variable_of};
-ghost use Rattle.pz_copy.specs.Packing.{IsParcelOf};
+ghost use Rattle.pz_rules.specs.pz_syntax.Classes.{ModelTree};
+ghost use Rattle.pz_rules.specs.pz_state.References.{RefersWithin};
+ghost use Rattle.pz_rules.specs.pz_state.States.{initial, value_at, variable as variable_of};
+ghost use Rattle.pz_rules.specs.pz_copy.Packing.{IsParcelOf};
 ghost use Rattle.pz_bind.specs.NetView.{HasProcess};
 ghost use Rattle.pz_bind.specs.devices.Nets.{IsNet};
 ghost use Rattle.pz_rules.specs.Settings.{Setting};
@@ -12,9 +12,9 @@ ghost use Rattle.pz_rules.specs.devices.Start.{start_of};
 ghost use Rattle.pz_term_simulator.specs.Shown.{HoldsValue};
 
 use pz_bind::Net;
-use pz_copy::{Parcel, pack};
-use pz_state::State;
-use pz_value::Value;
+use pz_rules::pz_copy::{Parcel, pack};
+use pz_rules::pz_state::State;
+use pz_rules::pz_value::Value;
 use std::alloc::{AllocError, Global};
 
 /// The value of a variable of a process in this state, as a parcel; nil where there is no such variable. The only error

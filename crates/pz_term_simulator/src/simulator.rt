@@ -1,5 +1,5 @@
 ghost use Rattle.std.specs.Prelude.{◌≡◌, ◌≤◌, ◌<◌, ◌+◌, ◌^◌, ℕ, IfOk, OnOk, IfErr};
-ghost use Rattle.pz_classes.specs.CheckedView.{checked_model};
+ghost use Rattle.pz_bind.specs.pz_classes.CheckedView.{checked_model};
 ghost use Rattle.pz_bind.specs.devices.Nets.{IsNet};
 ghost use Rattle.pz_term_simulator.specs.Simulations.{Simulation, IsMomentOf, IsOffer, Chooses, Passes, IsBroken, ClockIs, setting_in, model_in, limits_in, clock_in};
 ghost use Rattle.pz_term_simulator.specs.Shown.{IsShown, CanShow};
@@ -7,9 +7,9 @@ ghost use Rattle.pz_term_simulator.specs.Refusals.{OnNoSuchOffer, OnChooseNotNow
 
 use crate::refusal::{ChooseError, PassError};
 use pz_bind::Net;
-use pz_classes::Checked;
-use pz_copy::Parcel;
+use pz_bind::pz_classes::Checked;
 use pz_nodes::Steps;
+use pz_rules::pz_copy::Parcel;
 use pz_rules::{Action, Limits, Moment};
 use std::alloc::AllocError;
 use std::sync::ledger::Ledger;

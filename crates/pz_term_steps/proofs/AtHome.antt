@@ -6,24 +6,24 @@ use Rattle.std.proofs.Math.Logic.{∥∥₁_elim, ∥∥₁_map₂, ∥∥₁_pr
 use Rattle.std.proofs.Math.Nat.{ℕ_set}
 use Rattle.std.proofs.lemmas.List.{length-map}
 use Rattle.std.proofs.lemmas.Option.{slice_get_within}
-use Rattle.pz_syntax.specs.declared.tokens.Pos.{Pos}
-use Rattle.pz_syntax.specs.Classes.{ModelTree}
-use Rattle.pz_value.specs.declared.value.ClassId.{ClassId}
-use Rattle.pz_classes.specs.CheckedView.{checked_model}
-use Rattle.pz_classes.specs.declared.classes.Classes.{Classes}
-use Rattle.pz_classes.specs.Soundness.{IsSound}
-use Rattle.pz_classes.specs.SoundBodies.{SoundBodiesFit}
-use Rattle.pz_classes.specs.Tables.{HasClass}
-use Rattle.pz_classes.specs.devices.Rows.{AreClasses}
+use Rattle.pz_classes_code.specs.pz_syntax.declared.tokens.Pos.{Pos}
+use Rattle.pz_classes_code.specs.pz_syntax.Classes.{ModelTree}
+use Rattle.pz_classes_code.specs.pz_value.declared.value.ClassId.{ClassId}
+use Rattle.pz_bind.specs.pz_classes.CheckedView.{checked_model}
+use Rattle.pz_bind.specs.pz_classes.declared.classes.Classes.{Classes}
+use Rattle.pz_rules.specs.pz_classes_rules.Soundness.{IsSound}
+use Rattle.pz_rules.specs.pz_classes_rules.SoundBodies.{SoundBodiesFit}
+use Rattle.pz_bind.specs.pz_classes.Tables.{HasClass}
+use Rattle.pz_bind.specs.pz_classes.devices.Rows.{AreClasses}
 use Rattle.pz_bind_levels.specs.Places as levels
 use Rattle.pz_bind.specs.declared.net.Net.{Net}
-use Rattle.pz_bind.specs.Nest.{processes, class_at}
+use Rattle.pz_rules.specs.pz_bind_rules.Nest.{processes, class_at}
 use Rattle.pz_bind.specs.NetView.{HasProcess}
 use Rattle.pz_bind.specs.devices.Nets.{IsNet, node_at}
-use Rattle.pz_offer.specs.declared.end.End.{End}
-use Rattle.pz_offer.specs.PlaceOrder.{Place}
-use Rattle.pz_offer.specs.declared.trouble.Trouble.{Trouble}
-use Rattle.pz_state.specs.States.{StateView}
+use Rattle.pz_rules.specs.pz_offer.declared.end.End.{End}
+use Rattle.pz_rules.specs.pz_offer.PlaceOrder.{Place}
+use Rattle.pz_rules.specs.pz_offer.declared.trouble.Trouble.{Trouble}
+use Rattle.pz_rules.specs.pz_state.States.{StateView}
 use Rattle.pz_rules.specs.declared.limits.Limits.{Limits}
 use Rattle.pz_rules.specs.Terms.{Term}
 use Rattle.pz_rules.specs.Settings as rules
@@ -37,12 +37,12 @@ use Rattle.pz_rules.specs.Steps.{Deed}
 use Rattle.pz_rules.specs.View.{term_view}
 use Rattle.pz_term_processes.specs.declared.process.Process.{Process}
 use Rattle.pz_term_processes.specs.Standing.{setting_of, process_view, config_of, AreProcesses}
-use Rattle.pz_part_queries.specs.declared.standpoint.Standpoint.{Standpoint}
-use Rattle.pz_part_queries.specs.Standpoints.{Knows, seen_from}
-use Rattle.pz_part_actions.specs.Fitting.{FitsHere}
-use Rattle.pz_part_actions.specs.Homes.{seen_home}
-use Rattle.pz_part_opening.specs.declared.home.Home.{Home}
-use Rattle.pz_part_opening.specs.Homes.{home_view}
+use Rattle.pz_term_processes.specs.pz_part_queries.declared.standpoint.Standpoint.{Standpoint}
+use Rattle.pz_term_processes.specs.pz_part_queries.Standpoints.{Knows, seen_from}
+use Rattle.pz_term_processes.specs.pz_part_actions.Fitting.{FitsHere}
+use Rattle.pz_term_processes.specs.pz_part_actions.Homes.{seen_home}
+use Rattle.pz_term_processes.specs.pz_part_opening.declared.home.Home.{Home}
+use Rattle.pz_term_processes.specs.pz_part_opening.Homes.{home_view}
 use Rattle.pz_term_steps.specs.devices.Deeds.{Ability, CanDo, Leaves, seen_at}
 use Rattle.pz_term_steps.proofs.Lists.{some_is, image_there}
 

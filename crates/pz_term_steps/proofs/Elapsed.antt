@@ -5,9 +5,9 @@ use Rattle.std.proofs.Math.Logic.{∥∥₁_map}
 use Rattle.std.proofs.lemmas.Bool.{cases_lt}
 use Rattle.std.proofs.lemmas.List.{length-map}
 use Rattle.std.proofs.lemmas.Option.{slice_get_within}
-use Rattle.pz_classes.specs.Soundness.{IsSound}
-use Rattle.pz_state.specs.Marks.{Seen}
-use Rattle.pz_bind.specs.Nest.{class_at}
+use Rattle.pz_rules.specs.pz_classes_rules.Soundness.{IsSound}
+use Rattle.pz_rules.specs.pz_state.Marks.{Seen}
+use Rattle.pz_rules.specs.pz_bind_rules.Nest.{class_at}
 use Rattle.pz_rules.specs.declared.action.Action.{Action}
 use Rattle.pz_rules.specs.declared.action.Action.TheVariants.{Internal}
 use Rattle.pz_rules.specs.declared.action.Kind.TheVariants.{Skip}

@@ -1,12 +1,12 @@
 -- What is left of a process, once what its part did stays or is undone.
 use Rattle.std.proofs.Common.{◌≡◌, ℕ, List, Result, Ok, Err, Some, sym, subst, ap, ◌∙◌}
 use Rattle.std.specs.Prelude.{slice_get}
-use Rattle.pz_state.specs.States.{StateView}
-use Rattle.pz_state.specs.Marks.{Seen, IsLatest, point_of_first, undone, undone_from, kept}
-use Rattle.pz_bind.specs.Nest.{class_at}
-use Rattle.pz_offer.specs.declared.end.End.{End}
-use Rattle.pz_offer.specs.PlaceOrder.{Place}
-use Rattle.pz_offer.specs.declared.trouble.Trouble.{Trouble}
+use Rattle.pz_rules.specs.pz_state.States.{StateView}
+use Rattle.pz_rules.specs.pz_state.Marks.{Seen, IsLatest, point_of_first, undone, undone_from, kept}
+use Rattle.pz_rules.specs.pz_bind_rules.Nest.{class_at}
+use Rattle.pz_rules.specs.pz_offer.declared.end.End.{End}
+use Rattle.pz_rules.specs.pz_offer.PlaceOrder.{Place}
+use Rattle.pz_rules.specs.pz_offer.declared.trouble.Trouble.{Trouble}
 use Rattle.pz_rules.specs.declared.term.Term as code
 use Rattle.pz_rules.specs.Terms.{Term}
 use Rattle.pz_rules.specs.Settings as rules

@@ -5,19 +5,19 @@ use Rattle.std.proofs.Math.Logic.{∥∥₁_map}
 use Rattle.std.proofs.lemmas.Bool.{cases_lt}
 use Rattle.std.proofs.lemmas.List.{map-set}
 use Rattle.std.specs.declared.alloc.AllocError.{AllocError}
-use Rattle.pz_syntax.specs.declared.tokens.Pos.{Pos}
-use Rattle.pz_syntax.specs.Expressions.{Part, left_out, written}
-use Rattle.pz_syntax.specs.Statements as statements
-use Rattle.pz_value.specs.declared.value.ClassId.{ClassId}
-use Rattle.pz_value.specs.declared.value.Value.{Value}
+use Rattle.pz_classes_code.specs.pz_syntax.declared.tokens.Pos.{Pos}
+use Rattle.pz_classes_code.specs.pz_syntax.Expressions.{Part, left_out, written}
+use Rattle.pz_classes_code.specs.pz_syntax.Statements as statements
+use Rattle.pz_classes_code.specs.pz_value.declared.value.ClassId.{ClassId}
+use Rattle.pz_classes_code.specs.pz_value.declared.value.Value.{Value}
 use Rattle.pz_classes_code.specs.declared.slot.Slot.{Slot}
-use Rattle.pz_classes.specs.Soundness.{IsSound}
-use Rattle.pz_copy.specs.Parcels.{ParcelView}
-use Rattle.pz_state.specs.States.{StateView}
-use Rattle.pz_state.specs.States.{object_limit}
-use Rattle.pz_offer.specs.declared.end.End.{End}
-use Rattle.pz_offer.specs.declared.trouble.Trouble.{Trouble}
-use Rattle.pz_eval_rules.specs.Laws.{EachListHasAnOutcome}
+use Rattle.pz_rules.specs.pz_classes_rules.Soundness.{IsSound}
+use Rattle.pz_rules.specs.pz_copy.Parcels.{ParcelView}
+use Rattle.pz_rules.specs.pz_state.States.{StateView}
+use Rattle.pz_rules.specs.pz_state.States.{object_limit}
+use Rattle.pz_rules.specs.pz_offer.declared.end.End.{End}
+use Rattle.pz_rules.specs.pz_offer.declared.trouble.Trouble.{Trouble}
+use Rattle.pz_rules.specs.pz_eval_rules.Laws.{EachListHasAnOutcome}
 use Rattle.pz_rules.specs.declared.action.Kind.{Kind}
 use Rattle.pz_rules.specs.declared.action.Action.{Action}
 use Rattle.pz_rules.specs.declared.action.Action.TheVariants.{Internal, Comm}

@@ -1,6 +1,6 @@
 -- What a step of the code has come to.
 use Rattle.std.specs.Prelude.{ℕ, ⊤, List, Result, Ok, Err}
-use Rattle.pz_offer.specs.declared.trouble.Trouble.{Trouble}
+use Rattle.pz_rules.specs.pz_offer.declared.trouble.Trouble.{Trouble}
 use Rattle.pz_rules.specs.Configurations.{Config}
 use Rattle.pz_term_processes.specs.declared.process.Process.{Process}
 use Rattle.pz_term_processes.specs.Standing.{config_of}

@@ -3,25 +3,25 @@
 // state.
 
 ghost use Rattle.std.specs.Prelude.{◌≡◌, IfOk};
-ghost use Rattle.pz_classes.specs.CheckedView.{checked_model};
-ghost use Rattle.pz_copy.specs.Parcels.{ParcelView};
+ghost use Rattle.pz_bind.specs.pz_classes.CheckedView.{checked_model};
+ghost use Rattle.pz_rules.specs.pz_copy.Parcels.{ParcelView};
 ghost use Rattle.pz_rules.specs.InternalActions.{Performs};
 ghost use Rattle.pz_rules.specs.Messages.{Hands, Takes};
 ghost use Rattle.pz_rules.specs.View.{term_view};
-ghost use Rattle.pz_part_opening.specs.Homes.{home_view};
-ghost use Rattle.pz_part_queries.specs.Standpoints.{Knows};
-ghost use Rattle.pz_part_actions.specs.Fitting.{FitsHere};
-ghost use Rattle.pz_part_actions.specs.Homes.{seen_home};
+ghost use Rattle.pz_term_processes.specs.pz_part_opening.Homes.{home_view};
+ghost use Rattle.pz_term_processes.specs.pz_part_queries.Standpoints.{Knows};
+ghost use Rattle.pz_term_processes.specs.pz_part_actions.Fitting.{FitsHere};
+ghost use Rattle.pz_term_processes.specs.pz_part_actions.Homes.{seen_home};
 ghost use Rattle.pz_term_steps.specs.devices.Deeds.{CanAct, CanSend, CanReceive, CanDo, Leaves, begun_process, IsBegun};
 
 use crate::begun::{Begun, hold};
-use pz_copy::Parcel;
-use pz_offer::Trouble;
-use pz_part_actions::{at_home, done_by, hand, perform, pos_of, take};
-use pz_part_opening::Home;
-use pz_part_queries::{Standpoint, part_at};
-use pz_state::FrameId;
+use pz_rules::pz_copy::Parcel;
+use pz_rules::pz_offer::Trouble;
+use pz_rules::pz_state::FrameId;
 use pz_term_processes::Process;
+use pz_term_processes::pz_part_actions::pz_part_opening::Home;
+use pz_term_processes::pz_part_actions::pz_part_queries::{Standpoint, part_at};
+use pz_term_processes::pz_part_actions::{at_home, done_by, hand, perform, pos_of, take};
 use std::alloc::{AllocError, Global};
 
 /// A part acts by itself. Its process is of the class at home, and its term fits it.

@@ -1,26 +1,26 @@
 // A part of a process that has acted, while all that it did can still be undone.
 
 ghost use Rattle.std.specs.Prelude.{◌≡◌, MatchResult, OnOk};
-ghost use Rattle.pz_state.specs.States.{StateView};
-ghost use Rattle.pz_state.specs.Marks.{IsLatest, undone, kept};
+ghost use Rattle.pz_rules.specs.pz_state.States.{StateView};
+ghost use Rattle.pz_rules.specs.pz_state.Marks.{IsLatest, undone, kept};
 ghost use Rattle.pz_rules.specs.Meanings.{and_then};
 ghost use Rattle.pz_rules.specs.Leaving.{residual, swept};
 ghost use Rattle.pz_rules.specs.Settings.{left_by};
 ghost use Rattle.pz_rules.specs.View.{term_view};
-ghost use Rattle.pz_part_opening.specs.Homes.{home_view};
+ghost use Rattle.pz_term_processes.specs.pz_part_opening.Homes.{home_view};
 ghost use Rattle.pz_rules.specs.Places.{MayAct};
 ghost use Rattle.pz_rules.specs.Becoming.{Became};
-ghost use Rattle.pz_part_actions.specs.Becoming.{process_left};
-ghost use Rattle.pz_part_actions.specs.Homes.{seen_home};
+ghost use Rattle.pz_term_processes.specs.pz_part_actions.Becoming.{process_left};
+ghost use Rattle.pz_term_processes.specs.pz_part_actions.Homes.{seen_home};
 ghost use Rattle.pz_term_steps.specs.devices.Deeds.{begun_process, settled_home};
 
-use pz_offer::Trouble;
-use pz_part_opening::Home;
-use pz_part_queries::Standpoint;
+use pz_classes_code::pz_syntax::Pos;
 use pz_rules::Term;
-use pz_state::Savepoint;
-use pz_syntax::Pos;
+use pz_rules::pz_offer::Trouble;
+use pz_rules::pz_state::Savepoint;
 use pz_term_processes::Process;
+use pz_term_processes::pz_part_actions::pz_part_opening::Home;
+use pz_term_processes::pz_part_actions::pz_part_queries::Standpoint;
 use pz_term_residual::{settle, stays_low};
 use std::alloc::{AllocError, Global};
 use std::mem;

@@ -1,7 +1,7 @@
 ghost use Rattle.std.specs.Prelude.{◌≡◌, ◌+◌, ℕ, List, IfOk, OnOk, OnErr};
-ghost use Rattle.pz_syntax.specs.declared.tokens.Pos.{Pos};
-ghost use Rattle.pz_syntax.specs.Classes.{ModelTree};
-ghost use Rattle.pz_classes.specs.CheckedView.{checked_model};
+ghost use Rattle.pz_classes_code.specs.pz_syntax.declared.tokens.Pos.{Pos};
+ghost use Rattle.pz_classes_code.specs.pz_syntax.Classes.{ModelTree};
+ghost use Rattle.pz_bind.specs.pz_classes.CheckedView.{checked_model};
 ghost use Rattle.pz_bind.specs.devices.Nets.{IsNet};
 ghost use Rattle.pz_rules.specs.declared.action.Kind.{Kind};
 ghost use Rattle.pz_rules.specs.declared.limits.Edition.TheVariants.{Two};
@@ -11,19 +11,19 @@ ghost use Rattle.pz_rules.specs.Steps.{Next, PassesTo};
 ghost use Rattle.pz_rules.specs.Moments.{IsMoment};
 ghost use Rattle.pz_rules.specs.View.{term_view};
 ghost use Rattle.pz_rules.specs.devices.Passing.{passed};
-ghost use Rattle.pz_eval.specs.Known.{AreKnown};
-ghost use Rattle.pz_part_queries.specs.Standpoints.{Knows, seen_from};
+ghost use Rattle.pz_term_processes.specs.pz_eval.Known.{AreKnown};
+ghost use Rattle.pz_term_processes.specs.pz_part_queries.Standpoints.{Knows, seen_from};
 ghost use Rattle.pz_term_processes.specs.Standing.{setting_of, config_of, AreProcesses};
 ghost use Rattle.pz_term_steps.specs.Stepping.{reached};
 
 use crate::beginning::{begin_internal, begin_receive, begin_send};
 use crate::begun::{finish, withdraw};
 use pz_bind::Net;
-use pz_classes::Checked;
-use pz_copy::Parcel;
-use pz_offer::{End, Trouble};
-use pz_part_queries::Standpoint;
+use pz_bind::pz_classes::Checked;
+use pz_rules::pz_copy::Parcel;
+use pz_rules::pz_offer::{End, Trouble};
 use pz_rules::{Action, Limits, Moment, Term};
+use pz_term_processes::pz_part_actions::pz_part_queries::Standpoint;
 use pz_term_processes::{Process, home_at};
 use pz_term_time::pass;
 use std::alloc::{AllocError, Global};
@@ -52,7 +52,7 @@ fn act(
         (reached clock processes.new left)) }
     ensures stays { IfOk result (λ left. OnErr left (processes.new ≡ processes.old)) }
 {
-    pz_classes::laws::sound_bodies_fit();
+    pz_rules::pz_classes_rules::laws::sound_bodies_fit();
     pz_term_residual::laws::active_parts_may_act();
     let _model = checked.model();
     let here = Standpoint {
@@ -98,7 +98,7 @@ fn communicate(
     ensures stays { IfOk result (λ left. OnErr left (processes.new ≡ processes.old)) }
 {
     pz_term_residual::laws::active_parts_may_act();
-    pz_eval_rules::laws::each_list_has_an_outcome();
+    pz_rules::pz_eval_rules::laws::each_list_has_an_outcome();
     let (from, to) = (sender.process as usize, receiver.process as usize);
     let sends_at = sender.place.as_slice();
     let receives_at = receiver.place.as_slice();

@@ -1,8 +1,8 @@
 -- What becomes of a delay that has not begun.
 use Rattle.std.proofs.Common.{◌≡◌, ℕ, Option, Result, Ok, Err, refl, sym, ap, ◌∙◌, rules}
 use Rattle.std.specs.Result.{result_ok}
-use Rattle.pz_syntax.specs.declared.tokens.Pos.{Pos}
-use Rattle.pz_syntax.specs.Statements.{delay}
+use Rattle.pz_classes_code.specs.pz_syntax.declared.tokens.Pos.{Pos}
+use Rattle.pz_classes_code.specs.pz_syntax.Statements.{delay}
 use Rattle.pz_classes_code.specs.declared.code.Code.{Code}
 use Rattle.pz_classes_code.specs.declared.step.Step.{Step}
 use Rattle.pz_classes_code.specs.declared.step.StepForm.{StepForm}
@@ -10,7 +10,7 @@ use Rattle.pz_classes_code.specs.declared.step.StepForm.TheVariants as form
 use Rattle.pz_classes_code.specs.declared.step.StepForm.TheFolds.{the_lemmas}
 use Rattle.pz_classes_code.specs.CodeView as code
 use Rattle.pz_classes_code.specs.StepView as step
-use Rattle.pz_offer.specs.declared.trouble.Trouble.{Trouble}
+use Rattle.pz_rules.specs.pz_offer.declared.trouble.Trouble.{Trouble}
 use Rattle.pz_rules.specs.Terms as terms
 use Rattle.pz_rules.specs.Settings.{Context}
 use Rattle.pz_rules.specs.devices.Found.{lasting}

@@ -1,7 +1,7 @@
 //! The passing of time. The state stays as it is, always, and the only error is want of memory.
 
 ghost use Rattle.std.specs.Prelude.{◌≡◌, ◌<◌, ◌-◌, ℕ, length, slice_index_or, slice_set, if◌then◌else◌, IfOk};
-ghost use Rattle.pz_syntax.specs.Classes.{ModelTree};
+ghost use Rattle.pz_classes_code.specs.pz_syntax.Classes.{ModelTree};
 ghost use Rattle.pz_classes_code.specs.CodeView as code;
 ghost use Rattle.pz_classes_code.specs.StepView.{view};
 ghost use Rattle.pz_rules.specs.Terms as terms;
@@ -9,17 +9,17 @@ ghost use Rattle.pz_rules.specs.View.{term_view, terms_view};
 ghost use Rattle.pz_rules.specs.Delays.{Passes};
 ghost use Rattle.pz_rules.specs.devices.Passing.{passed, passed_all, statement_passed, if_open};
 ghost use Rattle.pz_rules.specs.devices.Computed.{IsUntroubled};
-ghost use Rattle.pz_eval.specs.Known.{AreKnown};
+ghost use Rattle.pz_part_queries.specs.pz_eval.Known.{AreKnown};
 ghost use Rattle.pz_part_queries.specs.Standpoints.{Knows, seen_from};
 ghost use Rattle.pz_term_time.specs.devices.Begun.{begun_with};
 
+use pz_classes_code::pz_items::{Boxed, Items, Shared};
+use pz_classes_code::pz_syntax::Pos;
 use pz_classes_code::{Code, Step, StepForm};
-use pz_items::{Boxed, Items, Shared};
-use pz_offer::Trouble;
 use pz_part_queries::{Standpoint, ask_test, ask_time};
 use pz_rules::Term;
-use pz_state::{FrameId, State};
-use pz_syntax::Pos;
+use pz_rules::pz_offer::Trouble;
+use pz_rules::pz_state::{FrameId, State};
 use std::alloc::{AllocError, Global};
 use std::mem;
 

@@ -7,13 +7,13 @@ use Rattle.std.specs.Prelude.{slice_get}
 use Rattle.std.specs.Option.{option_map_or}
 use Rattle.std.proofs.lemmas.List.{length-map}
 use Rattle.std.proofs.lemmas.Option.{slice_get-get_or}
-use Rattle.pz_syntax.specs.Classes.{ModelTree}
+use Rattle.pz_rules.specs.pz_syntax.Classes.{ModelTree}
 use Rattle.pz_bind_levels.specs.Places.{Address}
 use Rattle.pz_bind_levels.specs.Wires.{Channel, channel}
 use Rattle.pz_bind.specs.declared.net.Net.{Net}
-use Rattle.pz_bind.specs.Nest.{processes}
-use Rattle.pz_bind.specs.Names.{path, wire_name}
-use Rattle.pz_bind.specs.Wires.{wires}
+use Rattle.pz_rules.specs.pz_bind_rules.Nest.{processes}
+use Rattle.pz_rules.specs.pz_bind_rules.Names.{path, wire_name}
+use Rattle.pz_rules.specs.pz_bind_rules.Wires.{wires}
 use Rattle.pz_bind.specs.NetView.{HasProcess, IsWireOf}
 use Rattle.pz_bind.specs.devices.Nets.{IsNet, node_at}
 use Rattle.pz_trace.specs.Labels.{path_of, wire_of}

@@ -1,11 +1,11 @@
 -- Lines and short traces, computed from the definitions.
 use Rattle.std.proofs.Common.{◌≡◌, refl, [], ◌∷◌, codes}
 use Rattle.std.specs.Fmt.{digits}
-use Rattle.pz_syntax.specs.Classes.{ModelTree}
-use Rattle.pz_value.specs.declared.value.Value.TheVariants as value
-use Rattle.pz_state.specs.declared.fault.FaultKind.TheVariants.{Overflow, DivideByZero}
-use Rattle.pz_copy.specs.Parcels.{ParcelView}
-use Rattle.pz_offer.specs.declared.trouble.Trouble.TheVariants.{Fault, Spent, High}
+use Rattle.pz_rules.specs.pz_syntax.Classes.{ModelTree}
+use Rattle.pz_rules.specs.pz_value.declared.value.Value.TheVariants as value
+use Rattle.pz_rules.specs.pz_state.declared.fault.FaultKind.TheVariants.{Overflow, DivideByZero}
+use Rattle.pz_rules.specs.pz_copy.Parcels.{ParcelView}
+use Rattle.pz_rules.specs.pz_offer.declared.trouble.Trouble.TheVariants.{Fault, Spent, High}
 use Rattle.pz_rules.specs.declared.action.Kind.TheVariants.{Skip, Eval, Expire, Call}
 use Rattle.pz_rules.specs.Runs.{acted, passed}
 use Rattle.pz_trace.specs.declared.forms.Form.TheVariants.{Two, Three}

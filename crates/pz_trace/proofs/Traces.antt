@@ -2,9 +2,9 @@
 use Rattle.std.proofs.Common.{◌≡◌, refl, ℕ, pos, List, [], ◌∷◌, ◌++◌, codes}
 use Rattle.std.specs.Fmt.{digits}
 use Rattle.std.specs.List.{flat_map}
-use Rattle.pz_syntax.specs.Classes.{ModelTree}
-use Rattle.pz_value.specs.declared.value.Value.TheVariants as value
-use Rattle.pz_copy.specs.Parcels.{ParcelView}
+use Rattle.pz_rules.specs.pz_syntax.Classes.{ModelTree}
+use Rattle.pz_rules.specs.pz_value.declared.value.Value.TheVariants as value
+use Rattle.pz_rules.specs.pz_copy.Parcels.{ParcelView}
 use Rattle.pz_rules.specs.declared.action.Kind.TheVariants.{Eval, Test, Expire, Call}
 use Rattle.pz_rules.specs.Runs.{Event, acted, passed}
 use Rattle.pz_trace.specs.declared.ending.Ending.TheVariants as ending

@@ -6,23 +6,23 @@ use Rattle.std.specs.Option.{option_map_or}
 use Rattle.std.specs.Fmt.{decimal, signed_decimal}
 use Rattle.std.proofs.lemmas.List.Folds.{list_any-append}
 use Rattle.std.proofs.lemmas.Bool.{ne_eqb, eqb-true}
-use Rattle.pz_syntax.specs.declared.tokens.Pos.{Pos}
-use Rattle.pz_syntax.specs.Classes.{ModelTree}
-use Rattle.pz_value.specs.declared.value.Value.{Value}
-use Rattle.pz_value.specs.declared.value.Value.TheVariants as value
-use Rattle.pz_state.specs.declared.fault.FaultKind.{FaultKind}
-use Rattle.pz_state.specs.declared.fault.FaultKind.TheVariants as fault
-use Rattle.pz_state.specs.Objects.{ObjectView}
-use Rattle.pz_classes.specs.Tables.{class_names}
+use Rattle.pz_rules.specs.pz_syntax.declared.tokens.Pos.{Pos}
+use Rattle.pz_rules.specs.pz_syntax.Classes.{ModelTree}
+use Rattle.pz_rules.specs.pz_value.declared.value.Value.{Value}
+use Rattle.pz_rules.specs.pz_value.declared.value.Value.TheVariants as value
+use Rattle.pz_rules.specs.pz_state.declared.fault.FaultKind.{FaultKind}
+use Rattle.pz_rules.specs.pz_state.declared.fault.FaultKind.TheVariants as fault
+use Rattle.pz_rules.specs.pz_state.Objects.{ObjectView}
+use Rattle.pz_rules.specs.pz_classes_rules.ClassNames.{class_names}
 use Rattle.pz_bind_levels.specs.Places.{Address}
 use Rattle.pz_bind_levels.specs.Wires.{Channel}
-use Rattle.pz_bind.specs.Nest.{processes}
-use Rattle.pz_bind.specs.Names.{path, wire_name, name_at}
-use Rattle.pz_bind.specs.Wires.{wires}
-use Rattle.pz_copy.specs.Parcels.{ParcelView}
-use Rattle.pz_copy.specs.ParcelText.{name_of, hex_digit, item_text, quoted, value_text, values_text, object_text, object_texts, objects_text, parcel_text}
-use Rattle.pz_offer.specs.declared.trouble.Trouble.{Trouble}
-use Rattle.pz_offer.specs.declared.trouble.Trouble.TheVariants as trouble
+use Rattle.pz_rules.specs.pz_bind_rules.Nest.{processes}
+use Rattle.pz_rules.specs.pz_bind_rules.Names.{path, wire_name, name_at}
+use Rattle.pz_rules.specs.pz_bind_rules.Wires.{wires}
+use Rattle.pz_rules.specs.pz_copy.Parcels.{ParcelView}
+use Rattle.pz_rules.specs.pz_copy.ParcelText.{name_of, hex_digit, item_text, quoted, value_text, values_text, object_text, object_texts, objects_text, parcel_text}
+use Rattle.pz_rules.specs.pz_offer.declared.trouble.Trouble.{Trouble}
+use Rattle.pz_rules.specs.pz_offer.declared.trouble.Trouble.TheVariants as trouble
 use Rattle.pz_rules.specs.declared.action.Kind.{Kind}
 use Rattle.pz_rules.specs.declared.action.Kind.TheVariants as kind
 use Rattle.pz_rules.specs.declared.action.Action.{Action}

@@ -2,14 +2,14 @@
 -- `wire path ! message(parcel) -> path`. Words are separated by one blank.
 use Rattle.std.specs.Prelude.{ℕ, List, [], ◌++◌, codes, slice_get}
 use Rattle.std.specs.Option.{option_map_or}
-use Rattle.pz_syntax.specs.declared.tokens.Pos.{Pos}
-use Rattle.pz_syntax.specs.Classes.{ModelTree}
-use Rattle.pz_classes.specs.Tables.{class_names}
-use Rattle.pz_bind.specs.Nest.{processes}
-use Rattle.pz_bind.specs.Names.{path, wire_name}
-use Rattle.pz_bind.specs.Wires.{wires}
-use Rattle.pz_copy.specs.Parcels.{ParcelView}
-use Rattle.pz_copy.specs.ParcelText.{parcel_text}
+use Rattle.pz_rules.specs.pz_syntax.declared.tokens.Pos.{Pos}
+use Rattle.pz_rules.specs.pz_syntax.Classes.{ModelTree}
+use Rattle.pz_rules.specs.pz_classes_rules.ClassNames.{class_names}
+use Rattle.pz_rules.specs.pz_bind_rules.Nest.{processes}
+use Rattle.pz_rules.specs.pz_bind_rules.Names.{path, wire_name}
+use Rattle.pz_rules.specs.pz_bind_rules.Wires.{wires}
+use Rattle.pz_rules.specs.pz_copy.Parcels.{ParcelView}
+use Rattle.pz_rules.specs.pz_copy.ParcelText.{parcel_text}
 use Rattle.pz_rules.specs.declared.action.Kind.{Kind}
 use Rattle.pz_rules.specs.declared.action.Action.{Action}
 use Rattle.pz_rules.specs.declared.action.Action.TheVariants.{Internal, Comm}

@@ -3,15 +3,15 @@
 -- in a run is there.
 use Rattle.std.specs.Prelude.{◌≡◌, ◌≢◌, ◌<◌, ◌^◌, ℕ, nat_eq, false, List, ◌++◌, Err}
 use Rattle.std.specs.List.{list_any}
-use Rattle.pz_syntax.specs.Classes.{ModelTree}
-use Rattle.pz_value.specs.declared.value.ClassId.{ClassId}
-use Rattle.pz_classes.specs.Tables.{class_names}
+use Rattle.pz_rules.specs.pz_syntax.Classes.{ModelTree}
+use Rattle.pz_rules.specs.pz_value.declared.value.ClassId.{ClassId}
+use Rattle.pz_rules.specs.pz_classes_rules.ClassNames.{class_names}
 use Rattle.pz_bind_levels.specs.Places.{Address}
 use Rattle.pz_bind.specs.declared.net.Net.{Net}
-use Rattle.pz_bind.specs.Names.{name_at}
+use Rattle.pz_rules.specs.pz_bind_rules.Names.{name_at}
 use Rattle.pz_bind.specs.devices.Nets.{IsNet}
-use Rattle.pz_copy.specs.ParcelText.{name_of}
-use Rattle.pz_offer.specs.declared.trouble.Trouble.{Trouble}
+use Rattle.pz_rules.specs.pz_copy.ParcelText.{name_of}
+use Rattle.pz_rules.specs.pz_offer.declared.trouble.Trouble.{Trouble}
 use Rattle.pz_rules.specs.declared.action.Action.{Action}
 use Rattle.pz_rules.specs.declared.action.Action.TheVariants.{Internal, Comm}
 use Rattle.pz_rules.specs.declared.moment.Moment.TheVariants.{Faulty, Stopped}

@@ -1,9 +1,9 @@
 -- The words of lines. Numbers are decimal.
 use Rattle.std.specs.Prelude.{ℕ, List, ◌++◌, codes}
 use Rattle.std.specs.Fmt.{decimal}
-use Rattle.pz_syntax.specs.declared.tokens.Pos.{Pos}
-use Rattle.pz_state.specs.declared.fault.FaultKind.{FaultKind}
-use Rattle.pz_state.specs.declared.fault.FaultKind.TheVariants.{Overflow, DivideByZero, NotUnderstood, Index, NegativeDelay, NotBoolean, NotInteger, StoreFull, ClockTooLarge}
+use Rattle.pz_rules.specs.pz_syntax.declared.tokens.Pos.{Pos}
+use Rattle.pz_rules.specs.pz_state.declared.fault.FaultKind.{FaultKind}
+use Rattle.pz_rules.specs.pz_state.declared.fault.FaultKind.TheVariants.{Overflow, DivideByZero, NotUnderstood, Index, NegativeDelay, NotBoolean, NotInteger, StoreFull, ClockTooLarge}
 use Rattle.pz_rules.specs.declared.action.Kind.{Kind}
 use Rattle.pz_rules.specs.declared.action.Kind.TheVariants.{Skip, Eval, Test, Expire, Call}
 

@@ -1,4 +1,4 @@
-use pz_offer::Trouble;
+use pz_rules::pz_offer::Trouble;
 
 /// How a trace ends.
 #[derive(Clone, Copy, Debug, PartialEq, Eq)]

@@ -1,8 +1,8 @@
 // What an action is, as its line tells it. The only error is want of memory.
 
 ghost use Rattle.std.specs.Prelude.{◌≡◌, ◌++◌, IfOk, OnOk};
-ghost use Rattle.pz_syntax.specs.Classes.{ModelTree};
-ghost use Rattle.pz_classes.specs.CheckedView.{checked_model};
+ghost use Rattle.pz_rules.specs.pz_syntax.Classes.{ModelTree};
+ghost use Rattle.pz_bind.specs.pz_classes.CheckedView.{checked_model};
 ghost use Rattle.pz_bind.specs.NetView.{HasProcess, IsWireOf};
 ghost use Rattle.pz_bind.specs.devices.Nets.{IsNet};
 ghost use Rattle.pz_trace.specs.Labels as spec;
@@ -12,10 +12,10 @@ use crate::names::{class_names, path, wire_name};
 use crate::numbers::put_place;
 use crate::words::kind_word;
 use pz_bind::Net;
-use pz_classes::Checked;
-use pz_copy::Parcel;
+use pz_bind::pz_classes::Checked;
+use pz_rules::pz_copy::Parcel;
+use pz_rules::pz_syntax::{Name, Pos};
 use pz_rules::{Action, Kind};
-use pz_syntax::{Name, Pos};
 use std::alloc::{AllocError, Global};
 
 // An internal action of a process, at the end of a text.

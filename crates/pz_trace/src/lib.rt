@@ -18,3 +18,5 @@ pub use labels::label;
 pub use lines::{
     action_line, end_line, end_words, put_action_line, put_end_line, put_time_line, time_line,
 };
+pub use pz_rules;
+pub use pz_rules::pz_classes_rules;

@@ -1,8 +1,8 @@
 // The lines of a trace. The only error is want of memory.
 
 ghost use Rattle.std.specs.Prelude.{◌≡◌, ◌++◌, IfOk, OnOk};
-ghost use Rattle.pz_syntax.specs.Classes.{ModelTree};
-ghost use Rattle.pz_classes.specs.CheckedView.{checked_model};
+ghost use Rattle.pz_rules.specs.pz_syntax.Classes.{ModelTree};
+ghost use Rattle.pz_bind.specs.pz_classes.CheckedView.{checked_model};
 ghost use Rattle.pz_bind.specs.NetView.{HasProcess};
 ghost use Rattle.pz_bind.specs.devices.Nets.{IsNet};
 ghost use Rattle.pz_trace.specs.Labels.{spot};
@@ -15,10 +15,10 @@ use crate::names::path;
 use crate::numbers::{put_leading, put_number, put_place};
 use crate::words::fault_word;
 use pz_bind::Net;
-use pz_classes::Checked;
-use pz_offer::Trouble;
+use pz_bind::pz_classes::Checked;
 use pz_rules::Action;
-use pz_syntax::Pos;
+use pz_rules::pz_offer::Trouble;
+use pz_rules::pz_syntax::Pos;
 use std::alloc::{AllocError, Global};
 
 /// Puts the line of an action at the end of a text (`action_line`, with its conditions). What the text ends

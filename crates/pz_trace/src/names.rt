@@ -1,16 +1,16 @@
 // The names of what lines speak of. Takes no memory.
 
 ghost use Rattle.std.specs.Prelude.{◌≡◌};
-ghost use Rattle.pz_syntax.specs.Classes.{ModelTree};
-ghost use Rattle.pz_classes.specs.CheckedView.{checked_model};
-ghost use Rattle.pz_classes.specs.Tables as tables;
+ghost use Rattle.pz_rules.specs.pz_syntax.Classes.{ModelTree};
+ghost use Rattle.pz_bind.specs.pz_classes.CheckedView.{checked_model};
+ghost use Rattle.pz_rules.specs.pz_classes_rules.ClassNames as tables;
 ghost use Rattle.pz_bind.specs.NetView.{HasProcess, IsWireOf};
 ghost use Rattle.pz_bind.specs.devices.Nets.{IsNet};
 ghost use Rattle.pz_trace.specs.Labels.{path_of, wire_of};
 
 use pz_bind::Net;
-use pz_classes::Checked;
-use pz_value::Text;
+use pz_bind::pz_classes::Checked;
+use pz_rules::pz_value::Text;
 
 /// The path of a process.
 pub(crate) fn path(net: &Net, process: u32) -> &[u8]

@@ -4,7 +4,7 @@ ghost use Rattle.std.specs.Prelude.{◌≡◌, ◌++◌, codes, OnOk};
 ghost use Rattle.pz_trace.specs.Words.{pos_text};
 
 use itoa::{Buffer, Integer};
-use pz_syntax::Pos;
+use pz_rules::pz_syntax::Pos;
 use std::alloc::AllocError;
 
 /// Puts a number.

@@ -4,7 +4,7 @@ ghost use Rattle.std.specs.Prelude.{◌≡◌};
 ghost use Rattle.pz_trace.specs.Words as words;
 
 use pz_rules::Kind;
-use pz_state::FaultKind;
+use pz_rules::pz_state::FaultKind;
 
 pub(crate) fn kind_word(kind: Kind) -> &'static str
     ensures { result.now ≡ words.kind_word kind }

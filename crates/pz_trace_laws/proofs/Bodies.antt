@@ -2,18 +2,18 @@
 use Rattle.std.proofs.Common.{◌≡◌, ℕ, zero, suc, Bool, true, false, List, [], ◌∷◌, map, Option, Some, None, subst}
 use Rattle.std.specs.Prelude.{if◌then◌else◌}
 use Rattle.std.specs.Option.{unwrap_or, option_map, option_map_or, option_and_then}
-use Rattle.pz_syntax.specs.declared.names.Id.{Id}
-use Rattle.pz_syntax.specs.Statements.{Statement, skip, delay, bracketed, block, guarded, parallel, select, conditional, repeated, abort, interrupt, send, receive, call, assignment, value, Statements, no_statements, then, StatementPart, not_written, otherwise, Branches, no_branches, branch}
-use Rattle.pz_syntax.specs.Classes.{DataMethodTree, ProcessMethodTree, StartTree, DeclTree, data_class, process_class, cluster_class, system, ModelTree}
-use Rattle.pz_syntax.specs.ModelForm.{Each, IfWritten}
-use Rattle.pz_classes_code.specs.Resolution.{Scope, resolved_statement, resolved_statements, resolved_otherwise, resolved_branches}
-use Rattle.pz_classes_code.specs.StepView.{Tree}
-use Rattle.pz_classes.specs.Numbers.{declaration}
-use Rattle.pz_classes.specs.Ancestors.{ancestors}
-use Rattle.pz_classes.specs.Methods.{Signature, same_signature, data_signature, process_signature, nearest}
-use Rattle.pz_classes.specs.Bodies.{BodyTree, data_body, process_body, data_scope, process_scope, data_body_in, process_body_in, process_locals}
-use Rattle.pz_classes.specs.MethodBodies.{data_method_in, process_method_in, own_methods, first_body, own_body, body_with}
-use Rattle.pz_classes.specs.Starts.{own_start, start_call, own_call, init}
+use Rattle.pz_trace.specs.pz_syntax.declared.names.Id.{Id}
+use Rattle.pz_trace.specs.pz_syntax.Statements.{Statement, skip, delay, bracketed, block, guarded, parallel, select, conditional, repeated, abort, interrupt, send, receive, call, assignment, value, Statements, no_statements, then, StatementPart, not_written, otherwise, Branches, no_branches, branch}
+use Rattle.pz_trace.specs.pz_syntax.Classes.{DataMethodTree, ProcessMethodTree, StartTree, DeclTree, data_class, process_class, cluster_class, system, ModelTree}
+use Rattle.pz_trace.specs.pz_syntax.ModelForm.{Each, IfWritten}
+use Rattle.pz_trace.specs.pz_classes_code.Resolution.{Scope, resolved_statement, resolved_statements, resolved_otherwise, resolved_branches}
+use Rattle.pz_trace.specs.pz_classes_code.StepView.{Tree}
+use Rattle.pz_trace.specs.pz_classes_rules.Numbers.{declaration}
+use Rattle.pz_trace.specs.pz_classes_rules.Ancestors.{ancestors}
+use Rattle.pz_trace.specs.pz_classes_rules.Methods.{Signature, same_signature, data_signature, process_signature, nearest}
+use Rattle.pz_trace.specs.pz_classes_rules.Bodies.{BodyTree, data_body, process_body, data_scope, process_scope, data_body_in, process_body_in, process_locals}
+use Rattle.pz_trace.specs.pz_classes_rules.MethodBodies.{data_method_in, process_method_in, own_methods, first_body, own_body, body_with}
+use Rattle.pz_trace.specs.pz_classes_rules.Starts.{own_start, start_call, own_call, init}
 use Rattle.pz_trace_laws.specs.Messages.{StatementUnbroken, StatementsUnbroken, OtherwiseUnbroken, BranchesUnbroken, MethodUnbroken, DeclUnbroken, HasUnbrokenMessages}
 use Rattle.pz_trace_laws.proofs.Lists.{each_at, either, written}
 

@@ -2,42 +2,42 @@
 use Rattle.std.proofs.Common.{◌≡◌, ◌⊎◌, ◌<◌, inl, inr, ℕ, zero, suc, Bool, true, false, List, [], ◌∷◌, length, Some, Result, Ok, Err, refl, sym, subst, ap, ◌∙◌}
 use Rattle.std.proofs.lemmas.Option.{slice_get_within}
 use Rattle.std.specs.Prelude.{slice_get, slice_set, if◌then◌else◌, nat_le}
-use Rattle.pz_syntax.specs.declared.tokens.Pos.{Pos}
-use Rattle.pz_syntax.specs.Statements.{repeated, StatementPart}
-use Rattle.pz_syntax.specs.Classes.{ModelTree}
-use Rattle.pz_value.specs.declared.value.ClassId.{ClassId}
-use Rattle.pz_value.specs.declared.value.Value.{Value}
-use Rattle.pz_classes_code.specs.declared.slot.Slot.{Slot}
-use Rattle.pz_state.specs.States.{StateView, initial}
-use Rattle.pz_classes.specs.declared.method_id.Counts.TheVariants.{Process as process_counts}
-use Rattle.pz_classes.specs.Bodies.{process_body}
-use Rattle.pz_classes.specs.FitBodies.{how_many}
-use Rattle.pz_bind.specs.Nest.{processes, class_at}
-use Rattle.pz_bind.specs.Values.{values_at}
-use Rattle.pz_copy.specs.Parcels.{ParcelView}
-use Rattle.pz_offer.specs.declared.end.End.{End}
-use Rattle.pz_offer.specs.PlaceOrder.{Place}
-use Rattle.pz_offer.specs.declared.trouble.Trouble.{Trouble}
-use Rattle.pz_offer.specs.declared.trouble.Trouble.TheVariants.{High}
-use Rattle.pz_rules.specs.declared.action.Action.{Action}
-use Rattle.pz_rules.specs.Terms.{Step, Steps, Term, Terms, height}
-use Rattle.pz_rules.specs.Settings.{Setting, Process, Context, Home, home_of}
-use Rattle.pz_rules.specs.FrameNumbers.{least_free}
-use Rattle.pz_rules.specs.Meanings.{and_then, truth}
-use Rattle.pz_rules.specs.InternalActions as actions
-use Rattle.pz_rules.specs.InternalActions.{Performs, done_in, chosen, turned, with_inputs, entered}
-use Rattle.pz_rules.specs.Messages as messages
-use Rattle.pz_rules.specs.Messages.{Sends, Hands, Takes}
-use Rattle.pz_rules.specs.declared.limits.Edition.TheVariants.{Two}
-use Rattle.pz_rules.specs.Opening.{opened_all}
-use Rattle.pz_rules.specs.Leaving.{residual, swept, not_too_high, settled}
-use Rattle.pz_rules.specs.Delays as delays
-use Rattle.pz_rules.specs.Delays.{Passes, PassesAll}
-use Rattle.pz_rules.specs.Configurations.{Config, IsWhole}
-use Rattle.pz_rules.specs.Steps.{Deed, Acts, with_process, with_both, Next, internal, communication, PassesTo}
-use Rattle.pz_rules.specs.Offers as offers
-use Rattle.pz_rules.specs.Offers.{Offers}
-use Rattle.pz_rules.specs.Starting.{home_at, IsStart}
+use Rattle.pz_trace.specs.pz_syntax.declared.tokens.Pos.{Pos}
+use Rattle.pz_trace.specs.pz_syntax.Statements.{repeated, StatementPart}
+use Rattle.pz_trace.specs.pz_syntax.Classes.{ModelTree}
+use Rattle.pz_trace.specs.pz_value.declared.value.ClassId.{ClassId}
+use Rattle.pz_trace.specs.pz_value.declared.value.Value.{Value}
+use Rattle.pz_trace.specs.pz_classes_code.declared.slot.Slot.{Slot}
+use Rattle.pz_trace.specs.pz_state.States.{StateView, initial}
+use Rattle.pz_trace.specs.pz_classes_rules.declared.method_id.Counts.TheVariants.{Process as process_counts}
+use Rattle.pz_trace.specs.pz_classes_rules.Bodies.{process_body}
+use Rattle.pz_trace.specs.pz_classes_rules.FitBodies.{how_many}
+use Rattle.pz_trace.specs.pz_bind_rules.Nest.{processes, class_at}
+use Rattle.pz_trace.specs.pz_bind_rules.Values.{values_at}
+use Rattle.pz_trace.specs.pz_copy.Parcels.{ParcelView}
+use Rattle.pz_trace.specs.pz_offer.declared.end.End.{End}
+use Rattle.pz_trace.specs.pz_offer.PlaceOrder.{Place}
+use Rattle.pz_trace.specs.pz_offer.declared.trouble.Trouble.{Trouble}
+use Rattle.pz_trace.specs.pz_offer.declared.trouble.Trouble.TheVariants.{High}
+use Rattle.pz_trace.specs.pz_rules.declared.action.Action.{Action}
+use Rattle.pz_trace.specs.pz_rules.Terms.{Step, Steps, Term, Terms, height}
+use Rattle.pz_trace.specs.pz_rules.Settings.{Setting, Process, Context, Home, home_of}
+use Rattle.pz_trace.specs.pz_rules.FrameNumbers.{least_free}
+use Rattle.pz_trace.specs.pz_rules.Meanings.{and_then, truth}
+use Rattle.pz_trace.specs.pz_rules.InternalActions as actions
+use Rattle.pz_trace.specs.pz_rules.InternalActions.{Performs, done_in, chosen, turned, with_inputs, entered}
+use Rattle.pz_trace.specs.pz_rules.Messages as messages
+use Rattle.pz_trace.specs.pz_rules.Messages.{Sends, Hands, Takes}
+use Rattle.pz_trace.specs.pz_rules.declared.limits.Edition.TheVariants.{Two}
+use Rattle.pz_trace.specs.pz_rules.Opening.{opened_all}
+use Rattle.pz_trace.specs.pz_rules.Leaving.{residual, swept, not_too_high, settled}
+use Rattle.pz_trace.specs.pz_rules.Delays as delays
+use Rattle.pz_trace.specs.pz_rules.Delays.{Passes, PassesAll}
+use Rattle.pz_trace.specs.pz_rules.Configurations.{Config, IsWhole}
+use Rattle.pz_trace.specs.pz_rules.Steps.{Deed, Acts, with_process, with_both, Next, internal, communication, PassesTo}
+use Rattle.pz_trace.specs.pz_rules.Offers as offers
+use Rattle.pz_trace.specs.pz_rules.Offers.{Offers}
+use Rattle.pz_trace.specs.pz_rules.Starting.{home_at, IsStart}
 use Rattle.pz_trace.specs.Laws.{Unbroken, HasUnbrokenMessage}
 use Rattle.pz_trace_laws.specs.Messages.{StatementUnbroken, StatementsUnbroken, OtherwiseUnbroken, HasUnbrokenMessages}
 use Rattle.pz_trace_laws.specs.Standing.{TermUnbroken, TermsUnbroken, AllUnbroken}

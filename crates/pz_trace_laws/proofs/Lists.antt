@@ -2,7 +2,7 @@
 use Rattle.std.proofs.Common.{◌≡◌, ◌<◌, ℕ, zero, suc, List, [], ◌∷◌, ◌++◌, map, length, Option, Some, None, refl, arith}
 use Rattle.std.specs.Prelude.{slice_get}
 use Rattle.std.specs.Option.{unwrap_or, option_or}
-use Rattle.pz_syntax.specs.ModelForm.{Each, IfWritten}
+use Rattle.pz_trace.specs.pz_syntax.ModelForm.{Each, IfWritten}
 
 module _ {A : Type 0} (P : A → Type 0) where
   pub both : (xs ys : List A) → Each P xs → Each P ys → Each P (xs ++ ys)

@@ -2,18 +2,18 @@
 use Rattle.std.proofs.Common.{ℕ, zero, suc, List, [], ◌∷◌, Option, Some, None, refl, subst}
 use Rattle.std.specs.Prelude.{slice_get}
 use Rattle.std.specs.Option.{unwrap_or, option_map_or}
-use Rattle.pz_syntax.specs.declared.clusters.Instance.{Instance}
-use Rattle.pz_syntax.specs.Classes.{DeclTree, ModelTree}
-use Rattle.pz_syntax.specs.ModelForm.{Each, IfWritten}
-use Rattle.pz_syntax.specs.ModelText.{decl_text, text}
-use Rattle.pz_value.specs.declared.value.ClassId.{ClassId}
-use Rattle.pz_classes.specs.Numbers.{declaration, spelling}
-use Rattle.pz_classes.specs.Instances.{instances}
-use Rattle.pz_classes.specs.Tables.{class_names}
+use Rattle.pz_trace.specs.pz_syntax.declared.clusters.Instance.{Instance}
+use Rattle.pz_trace.specs.pz_syntax.Classes.{DeclTree, ModelTree}
+use Rattle.pz_trace.specs.pz_syntax.ModelForm.{Each, IfWritten}
+use Rattle.pz_trace.specs.pz_syntax.ModelText.{decl_text, text}
+use Rattle.pz_trace.specs.pz_value.declared.value.ClassId.{ClassId}
+use Rattle.pz_trace.specs.pz_classes_rules.Numbers.{declaration, spelling}
+use Rattle.pz_trace.specs.pz_classes_rules.Instances.{instances}
+use Rattle.pz_trace.specs.pz_classes_rules.ClassNames.{class_names}
 use Rattle.pz_bind_levels.specs.Places.{Address}
-use Rattle.pz_bind.specs.Nest.{instances_in, class_at}
-use Rattle.pz_bind.specs.Names.{name_at}
-use Rattle.pz_copy.specs.ParcelText.{name_of}
+use Rattle.pz_trace.specs.pz_bind_rules.Nest.{instances_in, class_at}
+use Rattle.pz_trace.specs.pz_bind_rules.Names.{name_at}
+use Rattle.pz_trace.specs.pz_copy.ParcelText.{name_of}
 use Rattle.pz_trace.specs.Laws.{Unbroken, HasUnbrokenNames}
 use Rattle.pz_run_reading.specs.Models.{IsModelOf}
 use Rattle.pz_trace_laws.specs.Messages.{DeclUnbroken, HasUnbrokenMessages}

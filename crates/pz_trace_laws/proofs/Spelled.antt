@@ -3,14 +3,14 @@ use Rattle.std.proofs.Common.{◌≡◌, ℕ, Bool, true, false, List, [], ◌�
 use Rattle.std.specs.Prelude.{◌&&◌, nat_eq, unwrap_or, option_map}
 use Rattle.std.specs.List.{list_all}
 use Rattle.std.proofs.lemmas.Bool.{eqb-true, false≢true}
-use Rattle.pz_syntax.specs.declared.tokens.Keyword.{Keyword}
-use Rattle.pz_syntax.specs.declared.tokens.TokenKind.{TokenKind}
-use Rattle.pz_syntax.specs.declared.tokens.TokenKind.TheVariants as kind
-use Rattle.pz_syntax.specs.declared.tokens.Mark.{Mark}
-use Rattle.pz_syntax.specs.declared.tokens.Pos.{Pos}
-use Rattle.pz_syntax.specs.declared.tokens.Token.{Token}
-use Rattle.pz_syntax.specs.ModelForm.{Each}
-use Rattle.pz_syntax.specs.Heads.{heads}
+use Rattle.pz_trace.specs.pz_syntax.declared.tokens.Keyword.{Keyword}
+use Rattle.pz_trace.specs.pz_syntax.declared.tokens.TokenKind.{TokenKind}
+use Rattle.pz_trace.specs.pz_syntax.declared.tokens.TokenKind.TheVariants as kind
+use Rattle.pz_trace.specs.pz_syntax.declared.tokens.Mark.{Mark}
+use Rattle.pz_trace.specs.pz_syntax.declared.tokens.Pos.{Pos}
+use Rattle.pz_trace.specs.pz_syntax.declared.tokens.Token.{Token}
+use Rattle.pz_trace.specs.pz_syntax.ModelForm.{Each}
+use Rattle.pz_trace.specs.pz_syntax.Heads.{heads}
 use Rattle.pz_parser_cursor.specs.devices.Input.{marks}
 use Rattle.pz_lexer.specs.declared.sorts.Sort.{Sort}
 use Rattle.pz_lexer.specs.declared.sorts.Sort.TheVariants as sort

@@ -1,25 +1,25 @@
 -- Terms stay unbroken.
 use Rattle.std.proofs.Common.{◌≡◌, refl, ℕ, zero, suc, Bool, true, false, List, [], ◌∷◌, Option, Some, None}
 use Rattle.std.specs.Prelude.{if◌then◌else◌}
-use Rattle.pz_syntax.specs.declared.names.Id.{Id}
-use Rattle.pz_syntax.specs.Expressions.{none, more}
-use Rattle.pz_syntax.specs.Statements.{skip, delay, bracketed, block, guarded as guarded_step, parallel as parallel_step, select as select_step, conditional, repeated, abort as abort_step, interrupt, send, receive, call, assignment, value, no_statements, then, StatementPart, not_written, otherwise, Branches, no_branches, branch}
-use Rattle.pz_value.specs.declared.value.ClassId.{ClassId}
-use Rattle.pz_classes_code.specs.declared.slot.Slot.{Slot}
-use Rattle.pz_classes.specs.declared.method_id.Counts.TheVariants.{Process as process_counts}
-use Rattle.pz_classes.specs.Bodies.{BodyTree, data_body, process_body}
-use Rattle.pz_state.specs.States.{StateView, opened as with_frame}
-use Rattle.pz_offer.specs.PlaceOrder.{Place}
-use Rattle.pz_rules.specs.Terms.{Step, Steps, Term, done, leaf, wait, sequence, parallel, select, guarded, frame, abort, idle, handling, Terms, no_terms, and, term_at, child, frame_in}
-use Rattle.pz_rules.specs.Settings.{Process, Context, Home}
-use Rattle.pz_rules.specs.declared.limits.Edition.{Edition}
-use Rattle.pz_rules.specs.declared.limits.Edition.TheVariants.{One, Two}
-use Rattle.pz_rules.specs.FrameNumbers.{least_free}
-use Rattle.pz_rules.specs.Opening.{step_opened, steps_opened, branches_opened, called_body, by_body, entered_to, depth_of, enter_in, enter, opened, opened_all, opened_part}
-use Rattle.pz_rules.specs.Framing.{framed}
-use Rattle.pz_rules.specs.Leaving.{replaced, joined, all_done, handled, aborted, interrupted, around, residual}
-use Rattle.pz_rules.specs.Active as active
-use Rattle.pz_rules.specs.Active.{Active}
+use Rattle.pz_trace.specs.pz_syntax.declared.names.Id.{Id}
+use Rattle.pz_trace.specs.pz_syntax.Expressions.{none, more}
+use Rattle.pz_trace.specs.pz_syntax.Statements.{skip, delay, bracketed, block, guarded as guarded_step, parallel as parallel_step, select as select_step, conditional, repeated, abort as abort_step, interrupt, send, receive, call, assignment, value, no_statements, then, StatementPart, not_written, otherwise, Branches, no_branches, branch}
+use Rattle.pz_trace.specs.pz_value.declared.value.ClassId.{ClassId}
+use Rattle.pz_trace.specs.pz_classes_code.declared.slot.Slot.{Slot}
+use Rattle.pz_trace.specs.pz_classes_rules.declared.method_id.Counts.TheVariants.{Process as process_counts}
+use Rattle.pz_trace.specs.pz_classes_rules.Bodies.{BodyTree, data_body, process_body}
+use Rattle.pz_trace.specs.pz_state.States.{StateView, opened as with_frame}
+use Rattle.pz_trace.specs.pz_offer.PlaceOrder.{Place}
+use Rattle.pz_trace.specs.pz_rules.Terms.{Step, Steps, Term, done, leaf, wait, sequence, parallel, select, guarded, frame, abort, idle, handling, Terms, no_terms, and, term_at, child, frame_in}
+use Rattle.pz_trace.specs.pz_rules.Settings.{Process, Context, Home}
+use Rattle.pz_trace.specs.pz_rules.declared.limits.Edition.{Edition}
+use Rattle.pz_trace.specs.pz_rules.declared.limits.Edition.TheVariants.{One, Two}
+use Rattle.pz_trace.specs.pz_rules.FrameNumbers.{least_free}
+use Rattle.pz_trace.specs.pz_rules.Opening.{step_opened, steps_opened, branches_opened, called_body, by_body, entered_to, depth_of, enter_in, enter, opened, opened_all, opened_part}
+use Rattle.pz_trace.specs.pz_rules.Framing.{framed}
+use Rattle.pz_trace.specs.pz_rules.Leaving.{replaced, joined, all_done, handled, aborted, interrupted, around, residual}
+use Rattle.pz_trace.specs.pz_rules.Active as active
+use Rattle.pz_trace.specs.pz_rules.Active.{Active}
 use Rattle.pz_trace_laws.specs.Messages.{HasUnbrokenMessages, StatementUnbroken, StatementsUnbroken, OtherwiseUnbroken, BranchesUnbroken}
 use Rattle.pz_trace_laws.specs.Standing.{TermUnbroken, TermsUnbroken}
 use Rattle.pz_trace_laws.proofs.Bodies.{body_unbroken}

@@ -1,26 +1,26 @@
 -- The names in a text without LF in its identifiers.
 use Rattle.std.proofs.Common.{List, [], ◌∷◌, ◌++◌, Option, Some, None, refl}
 use Rattle.std.specs.Option.{unwrap_or}
-use Rattle.pz_syntax.specs.declared.tokens.Symbol.{Symbol}
-use Rattle.pz_syntax.specs.declared.tokens.Symbol.TheVariants as s
-use Rattle.pz_syntax.specs.declared.tokens.Keyword.{Keyword}
-use Rattle.pz_syntax.specs.declared.tokens.Keyword.TheVariants as k
-use Rattle.pz_syntax.specs.declared.tokens.Mark.{Mark}
-use Rattle.pz_syntax.specs.declared.names.Id.{Id}
-use Rattle.pz_syntax.specs.declared.classes.Message.{Message}
-use Rattle.pz_syntax.specs.declared.clusters.Instance.{Instance}
-use Rattle.pz_syntax.specs.declared.clusters.ClusterClass.{ClusterClass}
-use Rattle.pz_syntax.specs.declared.clusters.SystemDecl.{SystemDecl}
-use Rattle.pz_syntax.specs.Marks.{symbol, keyword, each_text, tail_separated, separated, optional, section, word_text, names_text}
-use Rattle.pz_syntax.specs.ExpressionText as expression
-use Rattle.pz_syntax.specs.Statements.{Statement, skip, delay, bracketed, block, guarded, parallel, select, conditional, repeated, abort, interrupt, send, receive, call, assignment, value, Statements, no_statements, then, StatementPart, not_written, otherwise, Branches, no_branches, branch}
-use Rattle.pz_syntax.specs.StatementText as statement
-use Rattle.pz_syntax.specs.ClassText.{formal_text, locals_text, variables_text, message_text, messages_text, start_text, process_method_text}
-use Rattle.pz_syntax.specs.ModelText.{instance_text, channel_text, decl_text}
-use Rattle.pz_syntax.specs.Classes.{ProcessMethodTree, ProcessClassTree, DeclTree, data_class, process_class, cluster_class, system}
-use Rattle.pz_syntax.specs.ModelForm.{Each, IfWritten}
-use Rattle.pz_classes.specs.Numbers.{spelling}
-use Rattle.pz_classes.specs.Instances.{instances}
+use Rattle.pz_trace.specs.pz_syntax.declared.tokens.Symbol.{Symbol}
+use Rattle.pz_trace.specs.pz_syntax.declared.tokens.Symbol.TheVariants as s
+use Rattle.pz_trace.specs.pz_syntax.declared.tokens.Keyword.{Keyword}
+use Rattle.pz_trace.specs.pz_syntax.declared.tokens.Keyword.TheVariants as k
+use Rattle.pz_trace.specs.pz_syntax.declared.tokens.Mark.{Mark}
+use Rattle.pz_trace.specs.pz_syntax.declared.names.Id.{Id}
+use Rattle.pz_trace.specs.pz_syntax.declared.classes.Message.{Message}
+use Rattle.pz_trace.specs.pz_syntax.declared.clusters.Instance.{Instance}
+use Rattle.pz_trace.specs.pz_syntax.declared.clusters.ClusterClass.{ClusterClass}
+use Rattle.pz_trace.specs.pz_syntax.declared.clusters.SystemDecl.{SystemDecl}
+use Rattle.pz_trace.specs.pz_syntax.Marks.{symbol, keyword, each_text, tail_separated, separated, optional, section, word_text, names_text}
+use Rattle.pz_trace.specs.pz_syntax.ExpressionText as expression
+use Rattle.pz_trace.specs.pz_syntax.Statements.{Statement, skip, delay, bracketed, block, guarded, parallel, select, conditional, repeated, abort, interrupt, send, receive, call, assignment, value, Statements, no_statements, then, StatementPart, not_written, otherwise, Branches, no_branches, branch}
+use Rattle.pz_trace.specs.pz_syntax.StatementText as statement
+use Rattle.pz_trace.specs.pz_syntax.ClassText.{formal_text, locals_text, variables_text, message_text, messages_text, start_text, process_method_text}
+use Rattle.pz_trace.specs.pz_syntax.ModelText.{instance_text, channel_text, decl_text}
+use Rattle.pz_trace.specs.pz_syntax.Classes.{ProcessMethodTree, ProcessClassTree, DeclTree, data_class, process_class, cluster_class, system}
+use Rattle.pz_trace.specs.pz_syntax.ModelForm.{Each, IfWritten}
+use Rattle.pz_trace.specs.pz_classes_rules.Numbers.{spelling}
+use Rattle.pz_trace.specs.pz_classes_rules.Instances.{instances}
 use Rattle.pz_trace.specs.Laws.{Unbroken}
 use Rattle.pz_trace_laws.specs.Messages.{IsUnbroken, StatementUnbroken, StatementsUnbroken, OtherwiseUnbroken, BranchesUnbroken, MessageUnbroken, MethodUnbroken, DeclUnbroken}
 use Rattle.pz_trace_laws.proofs.Lists as lists

@@ -1,13 +1,13 @@
 -- Each event of a run of a model that was read has a line of its own.
 use Rattle.std.proofs.Common.{◌∙◌, ℕ, List, subst}
 use Rattle.std.proofs.lemmas.Option.{slice_get_within, get_or_from_slice_get}
-use Rattle.pz_syntax.specs.ModelForm.{Each}
-use Rattle.pz_rules.specs.declared.action.Action.{Action}
-use Rattle.pz_rules.specs.Laws.{StaysWhole}
-use Rattle.pz_rules.specs.Settings.{Setting}
-use Rattle.pz_rules.specs.Configurations.{Config, IsWhole}
-use Rattle.pz_rules.specs.Offers.{Offers}
-use Rattle.pz_rules.specs.Runs.{Event, acted, Standing, IsChoice, Reaches, here, acts, stops, passes}
+use Rattle.pz_trace.specs.pz_syntax.ModelForm.{Each}
+use Rattle.pz_trace.specs.pz_rules.declared.action.Action.{Action}
+use Rattle.pz_trace.specs.pz_rules.Laws.{StaysWhole}
+use Rattle.pz_trace.specs.pz_rules.Settings.{Setting}
+use Rattle.pz_trace.specs.pz_rules.Configurations.{Config, IsWhole}
+use Rattle.pz_trace.specs.pz_rules.Offers.{Offers}
+use Rattle.pz_trace.specs.pz_rules.Runs.{Event, acted, Standing, IsChoice, Reaches, here, acts, stops, passes}
 use Rattle.pz_trace.specs.TraceText.{event_line}
 use Rattle.pz_trace.specs.Laws.{IsLine, HasUnbrokenNames, TimeLinesAreLines, ActionLinesAreLines}
 use Rattle.pz_trace_laws.specs.Messages.{HasUnbrokenMessages}

@@ -1,15 +1,15 @@
 -- Laws of names and lines.
 use Rattle.std.specs.Prelude.{◌≡◌, ℕ, List, Ok}
-use Rattle.pz_syntax.specs.Classes.{ModelTree}
-use Rattle.pz_syntax.specs.ModelForm.{Each}
-use Rattle.pz_rules.specs.declared.action.Action.{Action}
-use Rattle.pz_rules.specs.declared.limits.Edition.TheVariants.{Two}
-use Rattle.pz_rules.specs.Settings.{Setting}
-use Rattle.pz_rules.specs.Configurations.{Config, IsWhole}
-use Rattle.pz_rules.specs.Starting.{IsStart}
-use Rattle.pz_rules.specs.Offers.{Offers}
-use Rattle.pz_rules.specs.Steps.{Next, PassesTo}
-use Rattle.pz_rules.specs.Runs.{Event, Standing, Reaches}
+use Rattle.pz_trace.specs.pz_syntax.Classes.{ModelTree}
+use Rattle.pz_trace.specs.pz_syntax.ModelForm.{Each}
+use Rattle.pz_trace.specs.pz_rules.declared.action.Action.{Action}
+use Rattle.pz_trace.specs.pz_rules.declared.limits.Edition.TheVariants.{Two}
+use Rattle.pz_trace.specs.pz_rules.Settings.{Setting}
+use Rattle.pz_trace.specs.pz_rules.Configurations.{Config, IsWhole}
+use Rattle.pz_trace.specs.pz_rules.Starting.{IsStart}
+use Rattle.pz_trace.specs.pz_rules.Offers.{Offers}
+use Rattle.pz_trace.specs.pz_rules.Steps.{Next, PassesTo}
+use Rattle.pz_trace.specs.pz_rules.Runs.{Event, Standing, Reaches}
 use Rattle.pz_trace.specs.TraceText.{event_line}
 use Rattle.pz_trace.specs.Laws.{IsLine, HasUnbrokenNames, HasUnbrokenMessage}
 use Rattle.pz_run_reading.specs.Models.{IsModelOf}

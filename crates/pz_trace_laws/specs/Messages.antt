@@ -1,9 +1,9 @@
 -- Models in which no name of a message has an LF.
-use Rattle.pz_syntax.specs.declared.names.Id.{Id}
-use Rattle.pz_syntax.specs.declared.classes.Message.{Message}
-use Rattle.pz_syntax.specs.Statements.{Statement, skip, delay, bracketed, block, guarded, parallel, select, conditional, repeated, abort, interrupt, send, receive, call, assignment, value, Statements, no_statements, then, StatementPart, not_written, otherwise, Branches, no_branches, branch}
-use Rattle.pz_syntax.specs.Classes.{ProcessMethodTree, DeclTree, data_class, process_class, cluster_class, system, ModelTree}
-use Rattle.pz_syntax.specs.ModelForm.{Each, IfWritten}
+use Rattle.pz_trace.specs.pz_syntax.declared.names.Id.{Id}
+use Rattle.pz_trace.specs.pz_syntax.declared.classes.Message.{Message}
+use Rattle.pz_trace.specs.pz_syntax.Statements.{Statement, skip, delay, bracketed, block, guarded, parallel, select, conditional, repeated, abort, interrupt, send, receive, call, assignment, value, Statements, no_statements, then, StatementPart, not_written, otherwise, Branches, no_branches, branch}
+use Rattle.pz_trace.specs.pz_syntax.Classes.{ProcessMethodTree, DeclTree, data_class, process_class, cluster_class, system, ModelTree}
+use Rattle.pz_trace.specs.pz_syntax.ModelForm.{Each, IfWritten}
 use Rattle.pz_trace.specs.Laws.{Unbroken}
 
 abbrev pub IsUnbroken : Id → Type 0

@@ -1,8 +1,8 @@
 -- Configurations in which no name of a message that is still to be sent or received has an LF.
 use Rattle.std.specs.Prelude.{◌≡◌, ℕ, Some, slice_get}
-use Rattle.pz_rules.specs.Terms.{Term, done, leaf, wait, sequence, parallel, select, guarded, frame, abort, idle, handling, Terms, no_terms, and}
-use Rattle.pz_rules.specs.Settings.{Process}
-use Rattle.pz_rules.specs.Configurations.{Config}
+use Rattle.pz_trace.specs.pz_rules.Terms.{Term, done, leaf, wait, sequence, parallel, select, guarded, frame, abort, idle, handling, Terms, no_terms, and}
+use Rattle.pz_trace.specs.pz_rules.Settings.{Process}
+use Rattle.pz_trace.specs.pz_rules.Configurations.{Config}
 use Rattle.pz_trace_laws.specs.Messages.{StatementUnbroken, StatementsUnbroken}
 
 abbrev mutual

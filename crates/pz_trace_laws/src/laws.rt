@@ -20,5 +20,5 @@ pub fn runs_tell_lines()
 {
     names_are_unbroken();
     pz_trace::laws::lines_stand_apart();
-    pz_rules::laws::one_next();
+    pz_trace::pz_rules::laws::one_next();
 }

@@ -7,41 +7,41 @@ use Rattle.std.proofs.Math.Nat.{ℕ_set}
 use Rattle.std.proofs.Math.Logic.{∥∥₁_prop, ∥∥₁_elim, ∥∥₁_map₂}
 use Rattle.std.proofs.lemmas.List.{length-map}
 use Rattle.std.proofs.lemmas.Option.{slice_get_within}
-use Rattle.pz_syntax.specs.Classes.{DeclTree, ModelTree}
-use Rattle.pz_value.specs.declared.value.ClassId.{ClassId}
-use Rattle.pz_classes.specs.Kinds.{is_process}
-use Rattle.pz_classes.specs.Numbers.{declaration}
-use Rattle.pz_classes.specs.SoundBodies.{SoundBodiesFit}
-use Rattle.pz_classes.specs.Soundness.{IsSound}
-use Rattle.pz_classes.specs.Tables.{HasClass}
-use Rattle.pz_classes.specs.declared.classes.Classes.{Classes}
-use Rattle.pz_classes.specs.devices.Rows.{AreClasses, rows_from, row_view}
-use Rattle.pz_copy.specs.Parcels.{ParcelView}
+use Rattle.pz_rules.specs.pz_syntax.Classes.{DeclTree, ModelTree}
+use Rattle.pz_rules.specs.pz_value.declared.value.ClassId.{ClassId}
+use Rattle.pz_rules.specs.pz_classes_rules.Kinds.{is_process}
+use Rattle.pz_rules.specs.pz_classes_rules.Numbers.{declaration}
+use Rattle.pz_rules.specs.pz_classes_rules.SoundBodies.{SoundBodiesFit}
+use Rattle.pz_rules.specs.pz_classes_rules.Soundness.{IsSound}
+use Rattle.pz_bind.specs.pz_classes.Tables.{HasClass}
+use Rattle.pz_bind.specs.pz_classes.declared.classes.Classes.{Classes}
+use Rattle.pz_bind.specs.pz_classes.devices.Rows.{AreClasses, rows_from, row_view}
+use Rattle.pz_rules.specs.pz_copy.Parcels.{ParcelView}
 use Rattle.pz_nodes.specs.Arena.{Arena, find}
 use Rattle.pz_nodes_shapes.specs.declared.node.Node.{Node}
 use Rattle.pz_nodes_shapes.specs.Rose.{Map, has_option}
 use Rattle.pz_nodes_shapes.specs.Change.{BecomesOption}
-use Rattle.pz_offer.specs.PlaceOrder.{Place}
-use Rattle.pz_offer.specs.declared.trouble.Trouble.{Trouble}
-use Rattle.pz_tree_acting.specs.pz_part_actions.Homes.{seen_home}
-use Rattle.pz_part_opening.specs.declared.home.Home.{Home}
-use Rattle.pz_part_opening.specs.Homes.{home_in, home_view}
-use Rattle.pz_part_queries.specs.declared.standpoint.Standpoint.{Standpoint}
-use Rattle.pz_part_queries.specs.Standpoints.{Knows}
+use Rattle.pz_rules.specs.pz_offer.PlaceOrder.{Place}
+use Rattle.pz_rules.specs.pz_offer.declared.trouble.Trouble.{Trouble}
+use Rattle.pz_term_processes.specs.pz_part_actions.Homes.{seen_home}
+use Rattle.pz_term_processes.specs.pz_part_opening.declared.home.Home.{Home}
+use Rattle.pz_term_processes.specs.pz_part_opening.Homes.{home_in, home_view}
+use Rattle.pz_term_processes.specs.pz_part_queries.declared.standpoint.Standpoint.{Standpoint}
+use Rattle.pz_term_processes.specs.pz_part_queries.Standpoints.{Knows}
 use Rattle.pz_rules.specs.Fitting.{TermFits}
 use Rattle.pz_rules.specs.Laws.{ProcessesHaveClasses}
 use Rattle.pz_rules.specs.Openable.{IsProcessClass}
 use Rattle.pz_rules.specs.Settings as rules
 use Rattle.pz_rules.specs.Settings.{Context, Process, left_by}
 use Rattle.pz_rules.specs.Terms.{Term}
-use Rattle.pz_state.specs.Marks.{Seen}
-use Rattle.pz_state.specs.States.{StateView}
-use Rattle.pz_tree_standing.specs.FrameCounts.{times}
-use Rattle.pz_tree_standing.specs.Frames.{open_as, FramesStand}
-use Rattle.pz_tree_nodes.specs.declared.node.What.{What}
-use Rattle.pz_tree_nodes.specs.View.{Plant, term_in_option}
-use Rattle.pz_tree_regrowing.specs.Costs.{on_way}
-use Rattle.pz_tree_regrowing.specs.Regrowing.{StandsOption}
+use Rattle.pz_rules.specs.pz_state.Marks.{Seen}
+use Rattle.pz_rules.specs.pz_state.States.{StateView}
+use Rattle.pz_tree_acting.specs.pz_tree_standing.FrameCounts.{times}
+use Rattle.pz_tree_acting.specs.pz_tree_standing.Frames.{open_as, FramesStand}
+use Rattle.pz_tree_acting.specs.pz_tree_nodes.declared.node.What.{What}
+use Rattle.pz_tree_acting.specs.pz_tree_nodes.View.{Plant, term_in_option}
+use Rattle.pz_tree_acting.specs.pz_tree_regrowing.Costs.{on_way}
+use Rattle.pz_tree_acting.specs.pz_tree_regrowing.Regrowing.{StandsOption}
 use Rattle.pz_rules.specs.Short.{IsShort}
 use Rattle.pz_tree_acting.specs.declared.how.How.{How}
 use Rattle.pz_tree_acting.specs.Deeds.{able, deed, CanDo, Leaves}

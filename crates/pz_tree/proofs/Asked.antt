@@ -1,15 +1,15 @@
 -- What is kept of a whole term, and that right nodes stand for it.
 use Rattle.std.proofs.Common.{◌≡◌, ℕ, Option, Some, None, refl, sym, ap, subst, ◌∙◌}
-use Rattle.pz_syntax.specs.Classes.{ModelTree}
+use Rattle.pz_rules.specs.pz_syntax.Classes.{ModelTree}
 use Rattle.pz_nodes.specs.Arena.{find}
 use Rattle.pz_nodes_shapes.specs.Rose.{node}
 use Rattle.pz_rules.specs.Settings.{Context}
-use Rattle.pz_tree_standing.specs.Summaries.{summary_of}
-use Rattle.pz_tree_nodes.specs.View.{Plant, term_in_option}
-use Rattle.pz_tree_nodes.specs.Tended.{TendedOption}
-use Rattle.pz_tree_nodes.specs.Planting.{root_of}
-use Rattle.pz_tree_regrowing.specs.Regrowing.{StandsOption}
-use Rattle.pz_tree_nodes.specs.Standing.{RightUnder}
+use Rattle.pz_tree_acting.specs.pz_tree_standing.Summaries.{summary_of}
+use Rattle.pz_tree_acting.specs.pz_tree_nodes.View.{Plant, term_in_option}
+use Rattle.pz_tree_acting.specs.pz_tree_nodes.Tended.{TendedOption}
+use Rattle.pz_tree_acting.specs.pz_tree_nodes.Planting.{root_of}
+use Rattle.pz_tree_acting.specs.pz_tree_regrowing.Regrowing.{StandsOption}
+use Rattle.pz_tree_acting.specs.pz_tree_nodes.Standing.{RightUnder}
 use Rattle.pz_tree.specs.declared.tree.Tree.{Tree}
 use Rattle.pz_tree.specs.Trees.{plant_in, term_in, at_in, FreshOption, IsFresh}
 use Rattle.pz_tree.specs.devices.Kept.{kept_of}

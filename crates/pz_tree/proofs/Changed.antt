@@ -1,22 +1,22 @@
 -- A tree of which nodes have changed.
 use Rattle.std.proofs.Common.{◌≡◌, ◌≤◌, ◌+◌, ◌*◌, ℕ, Option, Some, None, Result, Ok, Err, refl, sym, ap, subst, ◌∙◌, arith}
 use Rattle.std.specs.Prelude.{OnOk}
-use Rattle.pz_syntax.specs.Classes.{ModelTree}
+use Rattle.pz_rules.specs.pz_syntax.Classes.{ModelTree}
 use Rattle.pz_nodes.specs.Arena.{Arena, find}
 use Rattle.pz_nodes_shapes.specs.declared.node.Node.{Node}
 use Rattle.pz_nodes_shapes.specs.Rose.{root}
 use Rattle.pz_rules.specs.Settings.{left_by}
 use Rattle.pz_rules.specs.Terms.{Term, height}
-use Rattle.pz_state.specs.Marks.{Seen}
-use Rattle.pz_tree_standing.specs.Summaries.{summary_of}
-use Rattle.pz_tree_nodes.specs.declared.node.What.{What}
-use Rattle.pz_tree_nodes.specs.View.{Plant, term_in_option}
-use Rattle.pz_tree_nodes.specs.Tended.{TendedOption}
-use Rattle.pz_tree_nodes.specs.Planting.{root_of}
-use Rattle.pz_tree_regrowing.specs.Regrowing.{StandsOption}
+use Rattle.pz_rules.specs.pz_state.Marks.{Seen}
+use Rattle.pz_tree_acting.specs.pz_tree_standing.Summaries.{summary_of}
+use Rattle.pz_tree_acting.specs.pz_tree_nodes.declared.node.What.{What}
+use Rattle.pz_tree_acting.specs.pz_tree_nodes.View.{Plant, term_in_option}
+use Rattle.pz_tree_acting.specs.pz_tree_nodes.Tended.{TendedOption}
+use Rattle.pz_tree_acting.specs.pz_tree_nodes.Planting.{root_of}
+use Rattle.pz_tree_acting.specs.pz_tree_regrowing.Regrowing.{StandsOption}
 use Rattle.pz_rules.specs.Short.{IsShort}
-use Rattle.pz_tree_standing.specs.Soon.{IsSoon}
-use Rattle.pz_tree_refreshing.specs.Refreshing.{RefreshRule, IsRefreshed}
+use Rattle.pz_tree_acting.specs.pz_tree_standing.Soon.{IsSoon}
+use Rattle.pz_tree_elapsing.specs.pz_tree_refreshing.Refreshing.{RefreshRule, IsRefreshed}
 use Rattle.pz_tree.specs.declared.tree.Tree.{Tree}
 use Rattle.pz_tree.specs.Trees.{plant_in, term_in, process_in, at_in, IsThere, FreshOption, TimelyOption, IsFresh, live_of, live_in}
 use Rattle.pz_tree.proofs.Reading.{Under, is_read, its_term, there_by, fresh_by}

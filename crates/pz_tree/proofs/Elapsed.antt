@@ -1,8 +1,8 @@
 -- A tree over which time has passed.
 use Rattle.std.proofs.Common.{◌≡◌, ◌≤◌, ◌+◌, ◌*◌, ℕ, Option, Some, None, refl, sym, ap, subst, ◌∙◌, arith}
 use Rattle.std.specs.Prelude.{IfSome}
-use Rattle.pz_syntax.specs.Classes.{ModelTree}
-use Rattle.pz_classes.specs.Soundness.{IsSound}
+use Rattle.pz_rules.specs.pz_syntax.Classes.{ModelTree}
+use Rattle.pz_rules.specs.pz_classes_rules.Soundness.{IsSound}
 use Rattle.pz_nodes.specs.Arena.{Arena, find}
 use Rattle.pz_nodes_shapes.specs.declared.node.Node.{Node}
 use Rattle.pz_nodes_shapes.specs.Rose.{root}
@@ -11,16 +11,16 @@ use Rattle.pz_rules.specs.Terms.{Term, done, height}
 use Rattle.pz_rules.specs.Leaving as leaving
 use Rattle.pz_rules.specs.devices.Computed.{IsUntroubled}
 use Rattle.pz_rules.specs.devices.Walks.{TroublesAreListed}
-use Rattle.pz_state.specs.Marks.{Seen}
-use Rattle.pz_tree_standing.specs.Summaries.{summary_of}
-use Rattle.pz_tree_standing.specs.Steady.{later}
-use Rattle.pz_tree_nodes.specs.declared.node.What.{What}
-use Rattle.pz_tree_nodes.specs.View.{Plant, term_in_option}
-use Rattle.pz_tree_nodes.specs.Tended.{TendedOption}
-use Rattle.pz_tree_nodes.specs.Planting.{root_of}
-use Rattle.pz_tree_regrowing.specs.Regrowing.{StandsOption}
+use Rattle.pz_rules.specs.pz_state.Marks.{Seen}
+use Rattle.pz_tree_acting.specs.pz_tree_standing.Summaries.{summary_of}
+use Rattle.pz_tree_acting.specs.pz_tree_standing.Steady.{later}
+use Rattle.pz_tree_acting.specs.pz_tree_nodes.declared.node.What.{What}
+use Rattle.pz_tree_acting.specs.pz_tree_nodes.View.{Plant, term_in_option}
+use Rattle.pz_tree_acting.specs.pz_tree_nodes.Tended.{TendedOption}
+use Rattle.pz_tree_acting.specs.pz_tree_nodes.Planting.{root_of}
+use Rattle.pz_tree_acting.specs.pz_tree_regrowing.Regrowing.{StandsOption}
 use Rattle.pz_rules.specs.Short.{IsShort}
-use Rattle.pz_tree_standing.specs.Soon.{HasRoom}
+use Rattle.pz_tree_acting.specs.pz_tree_standing.Soon.{HasRoom}
 use Rattle.pz_tree_elapsing.specs.Elapsing.{IsNotBefore, HasElapsed, ElapseRule}
 use Rattle.pz_tree.specs.declared.tree.Tree.{Tree}
 use Rattle.pz_tree.specs.Trees.{plant_in, term_in, at_in, woken_of, woken_in, IsThere, FreshOption, TimelyOption, IsFresh}

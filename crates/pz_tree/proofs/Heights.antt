@@ -1,8 +1,8 @@
 -- A passing of time leaves the height of a term, and whether it is done.
 use Rattle.std.proofs.Common.{◌≡◌, ℕ, suc, max, Bool, true, false, Result, Ok, Err, refl, ap, ◌∙◌}
-use Rattle.pz_syntax.specs.declared.tokens.Pos.{Pos}
-use Rattle.pz_syntax.specs.Statements as statement
-use Rattle.pz_offer.specs.declared.trouble.Trouble.{Trouble}
+use Rattle.pz_rules.specs.pz_syntax.declared.tokens.Pos.{Pos}
+use Rattle.pz_rules.specs.pz_syntax.Statements as statement
+use Rattle.pz_rules.specs.pz_offer.declared.trouble.Trouble.{Trouble}
 use Rattle.pz_rules.specs.Terms.{Code, Step, Term, done, leaf, wait, sequence, parallel, select, guarded, frame, abort, idle, handling, Terms, no_terms, and, height, greatest_height}
 use Rattle.pz_rules.specs.Settings.{Context}
 use Rattle.pz_rules.specs.Leaving.{is_done}

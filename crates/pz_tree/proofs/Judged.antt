@@ -2,15 +2,15 @@
 use Rattle.std.proofs.Common.{◌≡◌, ℕ, Option, Some, None, refl, sym, ap, subst, ◌∙◌}
 use Rattle.std.specs.Prelude.{option_map}
 use Rattle.std.proofs.Math.Logic.{∥∥₁_elim}
-use Rattle.pz_syntax.specs.Statements as statement
-use Rattle.pz_syntax.specs.Classes.{ModelTree}
-use Rattle.pz_copy.specs.Parcels.{ParcelView}
+use Rattle.pz_rules.specs.pz_syntax.Statements as statement
+use Rattle.pz_rules.specs.pz_syntax.Classes.{ModelTree}
+use Rattle.pz_rules.specs.pz_copy.Parcels.{ParcelView}
 use Rattle.pz_nodes.specs.Arena.{find}
 use Rattle.pz_nodes_shapes.specs.declared.node.Node.{Node}
 use Rattle.pz_nodes_shapes.specs.Rose.{node, Map, root, roots, Stands}
 use Rattle.pz_nodes_shapes.specs.Seen.{seen, seen_node}
-use Rattle.pz_offer.specs.PlaceOrder.{Place}
-use Rattle.pz_offer.specs.declared.ends.Verdict.{Verdict}
+use Rattle.pz_rules.specs.pz_offer.PlaceOrder.{Place}
+use Rattle.pz_rules.specs.pz_offer.declared.ends.Verdict.{Verdict}
 use Rattle.pz_rules.specs.Acting.{IsReceive}
 use Rattle.pz_rules.specs.Laws.{part_of}
 use Rattle.pz_rules.specs.Messages.{Judges}
@@ -18,18 +18,18 @@ use Rattle.pz_rules.specs.Terms.{Step, Term, Terms, done}
 use Rattle.pz_rules.specs.Terms as term
 use Rattle.pz_rules.specs.View.{term_view}
 use Rattle.pz_rules.specs.declared.term.Term as code
-use Rattle.pz_state.specs.declared.state.FrameId.{FrameId}
-use Rattle.pz_tree_standing.specs.Heads as heads
-use Rattle.pz_tree_standing.specs.Heads.{Head, Shape, formed}
-use Rattle.pz_tree_standing.specs.Standing.{term_of, terms_of}
-use Rattle.pz_tree_standing.specs.Whole.{IsNoShift}
-use Rattle.pz_tree_standing.specs.Meaning.{StandsFor}
-use Rattle.pz_tree_nodes.specs.declared.node.What.{What}
-use Rattle.pz_tree_nodes.specs.View.{Plant, head_view, what_view, term_in_option}
-use Rattle.pz_tree_nodes.specs.Tended.{TendedOption}
-use Rattle.pz_tree_nodes.specs.Planting.{root_of}
-use Rattle.pz_tree_regrowing.specs.Regrowing.{StandsOption}
-use Rattle.pz_tree_nodes.specs.Seeking.{frame_at, StandsUnder, IsBare, IsBareUnder, SeekRule, ActiveAtPlace, TendedStand}
+use Rattle.pz_rules.specs.pz_state.declared.state.FrameId.{FrameId}
+use Rattle.pz_tree_acting.specs.pz_tree_standing.Heads as heads
+use Rattle.pz_tree_acting.specs.pz_tree_standing.Heads.{Head, Shape, formed}
+use Rattle.pz_tree_acting.specs.pz_tree_standing.Standing.{term_of, terms_of}
+use Rattle.pz_tree_acting.specs.pz_tree_standing.Whole.{IsNoShift}
+use Rattle.pz_tree_acting.specs.pz_tree_standing.Meaning.{StandsFor}
+use Rattle.pz_tree_acting.specs.pz_tree_nodes.declared.node.What.{What}
+use Rattle.pz_tree_acting.specs.pz_tree_nodes.View.{Plant, head_view, what_view, term_in_option}
+use Rattle.pz_tree_acting.specs.pz_tree_nodes.Tended.{TendedOption}
+use Rattle.pz_tree_acting.specs.pz_tree_nodes.Planting.{root_of}
+use Rattle.pz_tree_acting.specs.pz_tree_regrowing.Regrowing.{StandsOption}
+use Rattle.pz_tree_acting.specs.pz_tree_nodes.Seeking.{frame_at, StandsUnder, IsBare, IsBareUnder, SeekRule, ActiveAtPlace, TendedStand}
 use Rattle.pz_tree.specs.declared.tree.Tree.{Tree}
 use Rattle.pz_tree.specs.Asking.{HasReceive, said_by, JudgesAt}
 use Rattle.pz_tree.specs.Trees.{plant_in, term_in, at_in, IsThere, IsFresh}

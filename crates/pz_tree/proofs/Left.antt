@@ -1,10 +1,10 @@
 -- What an action leaves of a process has short delays and is not too high.
 use Rattle.std.proofs.Common.{◌≡◌, ◌≤◌, if◌then◌else◌, nat_le, ℕ, Bool, true, false, Result, Ok, Err, refl, sym, subst}
 use Rattle.std.proofs.lemmas.Bool.{leb-true}
-use Rattle.pz_syntax.specs.declared.tokens.Pos.{Pos}
-use Rattle.pz_offer.specs.PlaceOrder.{Place}
-use Rattle.pz_offer.specs.declared.trouble.Trouble.{Trouble}
-use Rattle.pz_offer.specs.declared.trouble.Trouble.TheVariants.{High}
+use Rattle.pz_rules.specs.pz_syntax.declared.tokens.Pos.{Pos}
+use Rattle.pz_rules.specs.pz_offer.PlaceOrder.{Place}
+use Rattle.pz_rules.specs.pz_offer.declared.trouble.Trouble.{Trouble}
+use Rattle.pz_rules.specs.pz_offer.declared.trouble.Trouble.TheVariants.{High}
 use Rattle.pz_rules.specs.Terms.{Term, height}
 use Rattle.pz_rules.specs.Settings.{Process, Context, home_of}
 use Rattle.pz_rules.specs.Leaving.{residual, swept, settled}

@@ -1,6 +1,6 @@
 -- Each of a list becomes another, one after the other.
 use Rattle.std.proofs.Common.{◌≡◌, List, [], ◌∷◌, ◌++◌, sym, subst, append_assoc, append-nil}
-use Rattle.pz_tree_nodes.specs.Listing.{Each}
+use Rattle.pz_tree_acting.specs.pz_tree_nodes.Listing.{Each}
 
 module _ {X Y : Type 0} (R : Y → X → Type 0) where
   -- what comes of those that are left, behind what there is, comes of all

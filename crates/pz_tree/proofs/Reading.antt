@@ -1,22 +1,22 @@
 -- What stands under the root of a tree is what is read there.
 use Rattle.std.proofs.Common.{◌≡◌, ◌≤◌, ℕ, Option, Some, None, refl, sym, ap, subst, arith}
 use Rattle.std.specs.Option.{option_and_then}
-use Rattle.pz_syntax.specs.Classes.{ModelTree}
+use Rattle.pz_rules.specs.pz_syntax.Classes.{ModelTree}
 use Rattle.pz_nodes.specs.Arena.{Arena, find, live}
 use Rattle.pz_nodes_shapes.specs.declared.node.Node.{Node}
 use Rattle.pz_nodes_shapes.specs.Reading.{read}
 use Rattle.pz_nodes_shapes.proofs.Readings.{reads, depth_le}
 use Rattle.pz_nodes_shapes.proofs.Sizes.{size_le_live}
-use Rattle.pz_offer.specs.declared.summary.Summary.{Summary}
+use Rattle.pz_rules.specs.pz_offer.declared.summary.Summary.{Summary}
 use Rattle.pz_rules.specs.Terms.{height}
-use Rattle.pz_tree_standing.specs.Summaries.{summary_of}
-use Rattle.pz_tree_nodes.specs.declared.node.What.{What}
-use Rattle.pz_tree_nodes.specs.View.{Plant, term_in_option}
-use Rattle.pz_tree_nodes.specs.Tended.{TendedOption}
-use Rattle.pz_tree_nodes.specs.Planting.{root_of}
-use Rattle.pz_tree_regrowing.specs.Regrowing.{StandsOption}
+use Rattle.pz_tree_acting.specs.pz_tree_standing.Summaries.{summary_of}
+use Rattle.pz_tree_acting.specs.pz_tree_nodes.declared.node.What.{What}
+use Rattle.pz_tree_acting.specs.pz_tree_nodes.View.{Plant, term_in_option}
+use Rattle.pz_tree_acting.specs.pz_tree_nodes.Tended.{TendedOption}
+use Rattle.pz_tree_acting.specs.pz_tree_nodes.Planting.{root_of}
+use Rattle.pz_tree_acting.specs.pz_tree_regrowing.Regrowing.{StandsOption}
 use Rattle.pz_rules.specs.Short.{IsShort}
-use Rattle.pz_tree_standing.specs.Soon.{HasRoom, IsSoon}
+use Rattle.pz_tree_acting.specs.pz_tree_standing.Soon.{HasRoom, IsSoon}
 use Rattle.pz_tree.specs.declared.tree.Tree.{Tree}
 use Rattle.pz_tree.specs.Trees.{plant_in, term_in, at_in, IsOf, IsThere, FreshOption, TimelyOption, IsFresh}
 use Rattle.pz_tree.specs.devices.Kept.{kept_of}

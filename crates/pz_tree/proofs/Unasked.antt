@@ -1,13 +1,13 @@
 -- What an active part is asked has a trouble only where the summary of the term has one.
 use Rattle.std.proofs.Common.{◌≡◌, ℕ, List, [], ◌∷◌, None, refl, arith}
 use Rattle.std.specs.Prelude.{Contains}
-use Rattle.pz_offer.specs.declared.trouble.Trouble.{Trouble}
+use Rattle.pz_rules.specs.pz_offer.declared.trouble.Trouble.{Trouble}
 use Rattle.pz_rules.specs.Settings.{Context}
 use Rattle.pz_rules.specs.Terms.{Term}
 use Rattle.pz_rules.specs.devices.Computed.{IsUntroubled}
 use Rattle.pz_rules.specs.devices.Walk.{Noted, active_troubles}
 use Rattle.pz_rules.specs.devices.Walks.{TroublesAreListed}
-use Rattle.pz_tree_standing.specs.Summaries.{first_of, summary_of}
+use Rattle.pz_tree_acting.specs.pz_tree_standing.Summaries.{first_of, summary_of}
 
 none_first : (ns : List (Noted Trouble)) → first_of ns ≡ None → ns ≡ []
 none_first [] e = refl

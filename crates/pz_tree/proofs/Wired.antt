@@ -3,17 +3,17 @@ use Rattle.std.proofs.Common.{◌≡◌, ◌<◌, ℕ, suc, List, [], ◌∷◌,
 use Rattle.std.specs.Prelude.{slice_get, All}
 use Rattle.std.proofs.lemmas.List.{length-map}
 use Rattle.std.proofs.lemmas.Option.{same_Some, slice_get-get_or}
-use Rattle.pz_syntax.specs.Classes.{ModelTree}
-use Rattle.pz_syntax.specs.declared.names.Id.{Id}
-use Rattle.pz_classes.specs.Members.{ports, spelled}
+use Rattle.pz_rules.specs.pz_syntax.Classes.{ModelTree}
+use Rattle.pz_rules.specs.pz_syntax.declared.names.Id.{Id}
+use Rattle.pz_rules.specs.pz_classes_rules.Members.{ports, spelled}
 use Rattle.pz_bind_levels.specs.Places.{Address}
-use Rattle.pz_bind.specs.Nest.{processes, class_at}
-use Rattle.pz_bind.specs.Connections.{end, IsIn, IsInNone}
+use Rattle.pz_rules.specs.pz_bind_rules.Nest.{processes, class_at}
+use Rattle.pz_rules.specs.pz_bind_rules.Connections.{end, IsIn, IsInNone}
 use Rattle.pz_bind.specs.devices.Nets.{IsNet}
 use Rattle.pz_bind.specs.declared.net.Net.{Net}
-use Rattle.pz_copy.specs.Packing.{IsParcelOf}
-use Rattle.pz_offer.specs.declared.ends.SendOffer.{SendOffer}
-use Rattle.pz_offer.specs.declared.ends.ReceiveOffer.{ReceiveOffer}
+use Rattle.pz_rules.specs.pz_copy.Packing.{IsParcelOf}
+use Rattle.pz_rules.specs.pz_offer.declared.ends.SendOffer.{SendOffer}
+use Rattle.pz_rules.specs.pz_offer.declared.ends.ReceiveOffer.{ReceiveOffer}
 use Rattle.pz_rules.specs.Fitting.{TermFits}
 use Rattle.pz_rules.specs.Messages.{Receives, receives}
 use Rattle.pz_rules.specs.Ports.{IsWire}
@@ -24,11 +24,11 @@ use Rattle.pz_rules.specs.devices.Walk.{Noted, active_sends, active_receives}
 use Rattle.pz_rules.specs.devices.Walk as walk
 use Rattle.pz_rules.specs.devices.Walks.{IsThere, Offering, offering, SendsAreListed, ReceivesAreListed}
 use Rattle.pz_rules.specs.Laws.{part_of}
-use Rattle.pz_tree_nodes.specs.Listing.{Each}
+use Rattle.pz_tree_acting.specs.pz_tree_nodes.Listing.{Each}
 use Rattle.pz_tree_offering.specs.declared.offers.ActiveSend.{ActiveSend}
 use Rattle.pz_tree_offering.specs.declared.offers.ActiveReceive.{ActiveReceive}
 use Rattle.pz_tree_offering.specs.Offers.{AreSends, has_condition, AreReceives}
-use Rattle.pz_tree_standing.specs.Woken.{is_clocked}
+use Rattle.pz_tree_acting.specs.pz_tree_standing.Woken.{is_clocked}
 use Rattle.pz_tree.specs.Asking.{ReachesWire, IsSendOffer, AreSendOffers, IsReceiveOffer, AreReceiveOffers}
 use Rattle.pz_tree.specs.devices.Wires.{WireRule, AreSentOver, AreReceivedOver}
 

@@ -1,7 +1,7 @@
 -- What a tree answers to a part of its process that acts.
 use Rattle.std.specs.Prelude.{◌≤◌, ◌+◌, ℕ, Result, Ok, Err, IfOk}
-use Rattle.pz_offer.specs.PlaceOrder.{Place}
-use Rattle.pz_offer.specs.declared.trouble.Trouble.{Trouble}
+use Rattle.pz_rules.specs.pz_offer.PlaceOrder.{Place}
+use Rattle.pz_rules.specs.pz_offer.declared.trouble.Trouble.{Trouble}
 use Rattle.pz_rules.specs.Settings.{Context, Process}
 use Rattle.pz_rules.specs.Steps.{Deed}
 use Rattle.pz_rules.specs.Terms.{Term}

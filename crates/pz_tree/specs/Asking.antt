@@ -1,15 +1,15 @@
 -- What a tree answers when it is asked.
 use Rattle.std.specs.Prelude.{◌≡◌, ℕ, Bool, true, false, List, Option, Some, None, Result, Ok, Err}
-use Rattle.pz_syntax.specs.Classes.{ModelTree}
-use Rattle.pz_copy.specs.Packing.{IsParcelOf}
-use Rattle.pz_copy.specs.Parcels.{ParcelView}
-use Rattle.pz_offer.specs.PlaceOrder.{Place}
-use Rattle.pz_offer.specs.declared.trouble.Trouble.{Trouble}
-use Rattle.pz_offer.specs.declared.ends.SendOffer.{SendOffer}
-use Rattle.pz_offer.specs.declared.ends.ReceiveOffer.{ReceiveOffer}
-use Rattle.pz_offer.specs.declared.ends.Verdict.{Verdict}
-use Rattle.pz_offer.specs.declared.ends.Verdict.TheVariants.{Yes, No}
-use Rattle.pz_offer.specs.declared.ends.Verdict.TheVariants as verdict
+use Rattle.pz_rules.specs.pz_syntax.Classes.{ModelTree}
+use Rattle.pz_rules.specs.pz_copy.Packing.{IsParcelOf}
+use Rattle.pz_rules.specs.pz_copy.Parcels.{ParcelView}
+use Rattle.pz_rules.specs.pz_offer.PlaceOrder.{Place}
+use Rattle.pz_rules.specs.pz_offer.declared.trouble.Trouble.{Trouble}
+use Rattle.pz_rules.specs.pz_offer.declared.ends.SendOffer.{SendOffer}
+use Rattle.pz_rules.specs.pz_offer.declared.ends.ReceiveOffer.{ReceiveOffer}
+use Rattle.pz_rules.specs.pz_offer.declared.ends.Verdict.{Verdict}
+use Rattle.pz_rules.specs.pz_offer.declared.ends.Verdict.TheVariants.{Yes, No}
+use Rattle.pz_rules.specs.pz_offer.declared.ends.Verdict.TheVariants as verdict
 use Rattle.pz_rules.specs.Active.{IsActive}
 use Rattle.pz_rules.specs.Acting.{IsReceive}
 use Rattle.pz_rules.specs.Laws.{part_of}
@@ -20,8 +20,8 @@ use Rattle.pz_rules.specs.Terms.{Term}
 use Rattle.pz_rules.specs.devices.Walk.{Noted, Doing, active_sends, active_receives}
 use Rattle.pz_rules.specs.devices.Walk as walk
 use Rattle.pz_rules.specs.devices.Walks as walks
-use Rattle.pz_tree_standing.specs.Woken.{is_clocked}
-use Rattle.pz_tree_nodes.specs.Listing.{Each}
+use Rattle.pz_tree_acting.specs.pz_tree_standing.Woken.{is_clocked}
+use Rattle.pz_tree_acting.specs.pz_tree_nodes.Listing.{Each}
 use Rattle.pz_tree_offering.specs.Offers.{has_condition}
 use Rattle.pz_tree.specs.declared.found.InternalAction.{InternalAction}
 

@@ -1,23 +1,23 @@
 -- What an execution tree stands for, and when what it keeps is right.
 use Rattle.std.specs.Prelude.{◌≡◌, ◌≤◌, ℕ, Option, Some, None, slice_get}
 use Rattle.std.specs.Option.{option_and_then}
-use Rattle.pz_syntax.specs.Classes.{ModelTree}
+use Rattle.pz_rules.specs.pz_syntax.Classes.{ModelTree}
 use Rattle.pz_bind_levels.specs.Places.{Address}
-use Rattle.pz_bind.specs.Nest.{processes, class_at}
+use Rattle.pz_rules.specs.pz_bind_rules.Nest.{processes, class_at}
 use Rattle.pz_nodes.specs.Arena.{find, live}
 use Rattle.pz_nodes_shapes.specs.Reading.{read}
 use Rattle.pz_rules.specs.Terms.{Term, height}
 use Rattle.pz_rules.specs.Settings.{Context, Process, left_by}
-use Rattle.pz_tree_standing.specs.Summaries.{summary_of}
-use Rattle.pz_tree_nodes.specs.View.{Plant, term_in_option}
-use Rattle.pz_tree_nodes.specs.Tended.{TendedOption}
-use Rattle.pz_tree_nodes.specs.Fresh.{Fresh}
-use Rattle.pz_tree_nodes.specs.Planting.{root_of}
-use Rattle.pz_tree_regrowing.specs.Regrowing.{StandsOption}
-use Rattle.pz_tree_refreshing.specs.Live.{live_nodes}
+use Rattle.pz_tree_acting.specs.pz_tree_standing.Summaries.{summary_of}
+use Rattle.pz_tree_acting.specs.pz_tree_nodes.View.{Plant, term_in_option}
+use Rattle.pz_tree_acting.specs.pz_tree_nodes.Tended.{TendedOption}
+use Rattle.pz_tree_acting.specs.pz_tree_nodes.Fresh.{Fresh}
+use Rattle.pz_tree_acting.specs.pz_tree_nodes.Planting.{root_of}
+use Rattle.pz_tree_acting.specs.pz_tree_regrowing.Regrowing.{StandsOption}
+use Rattle.pz_tree_elapsing.specs.pz_tree_refreshing.Live.{live_nodes}
 use Rattle.pz_rules.specs.Short.{IsShort}
-use Rattle.pz_tree_standing.specs.Soon.{HasRoom, IsSoon}
-use Rattle.pz_tree_refreshing.specs.Refreshing.{Timely}
+use Rattle.pz_tree_acting.specs.pz_tree_standing.Soon.{HasRoom, IsSoon}
+use Rattle.pz_tree_elapsing.specs.pz_tree_refreshing.Refreshing.{Timely}
 use Rattle.pz_tree_elapsing.specs.Waking.{woken_nodes}
 use Rattle.pz_tree.specs.declared.tree.Tree.{Tree}
 

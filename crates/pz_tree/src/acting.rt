@@ -1,9 +1,9 @@
 // A part of a process acts, or tries to.
 
 ghost use Rattle.std.specs.Prelude.{◌≡◌, ◌≤◌, ◌+◌, ◌*◌, IfOk, OnErr, OnOk};
-ghost use Rattle.pz_classes.specs.CheckedView.{checked_model};
-ghost use Rattle.pz_copy.specs.Parcels.{ParcelView};
-ghost use Rattle.pz_part_opening.specs.Homes.{home_in, home_view};
+ghost use Rattle.pz_bind.specs.pz_classes.CheckedView.{checked_model};
+ghost use Rattle.pz_rules.specs.pz_copy.Parcels.{ParcelView};
+ghost use Rattle.pz_term_processes.specs.pz_part_opening.Homes.{home_in, home_view};
 ghost use Rattle.pz_rules.specs.declared.limits.Edition.TheVariants.{Two};
 ghost use Rattle.pz_rules.specs.CallLaws.{NoRounds};
 ghost use Rattle.pz_rules.specs.Fitting.{TermFits};
@@ -11,16 +11,17 @@ ghost use Rattle.pz_rules.specs.Openable.{IsProcessClass};
 ghost use Rattle.pz_rules.specs.Settings.{in_state};
 ghost use Rattle.pz_tree_acting.specs.Acting.{Answers};
 ghost use Rattle.pz_tree_acting.specs.Deeds.{able, deed, CanDo, Leaves};
-ghost use Rattle.pz_tree_standing.specs.Frames.{FramesStand};
-ghost use Rattle.pz_tree_regrowing.specs.Costs.{on_way};
+ghost use Rattle.pz_tree_acting.specs.pz_tree_standing.Frames.{FramesStand};
+ghost use Rattle.pz_tree_acting.specs.pz_tree_regrowing.Costs.{on_way};
 ghost use Rattle.pz_tree.specs.Acting.{answered, LeavesSoon};
 ghost use Rattle.pz_tree.specs.Trees.{at_in, term_in, process_in, IsThere, IsFresh};
 
 use crate::tree::Tree;
-use pz_classes::Checked;
+use pz_bind::pz_classes::Checked;
+use pz_bind::pz_classes_rules;
 use pz_nodes::Steps;
-use pz_offer::{Place, Trouble};
-use pz_part_opening::Home;
+use pz_rules::pz_offer::{Place, Trouble};
+use pz_term_processes::pz_part_actions::pz_part_opening::Home;
 use pz_tree_acting::{How, act, trial};
 use std::alloc::AllocError;
 use std::sync::ledger::Ledger;
@@ -81,7 +82,7 @@ impl Tree {
             (term_in self.old) place.now (process_in self.new) steps.old steps.new)) }
     {
         pz_rules::laws::processes_have_classes();
-        pz_classes::laws::sound_bodies_fit();
+        pz_classes_rules::laws::sound_bodies_fit();
         let _model = checked.model();
         let here = self.standpoint(checked);
         let home = self.home(checked);
@@ -136,7 +137,7 @@ impl Tree {
             OnOk result (steps.new ≤ steps.old + 5 * on_way (term_in self.old) place.now) }
     {
         pz_rules::laws::processes_have_classes();
-        pz_classes::laws::sound_bodies_fit();
+        pz_classes_rules::laws::sound_bodies_fit();
         let _model = checked.model();
         let here = self.standpoint(checked);
         let home = self.home(checked);

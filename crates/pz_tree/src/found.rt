@@ -1,6 +1,6 @@
-use pz_offer::Place;
 use pz_rules::Kind;
-use pz_syntax::Pos;
+use pz_rules::pz_offer::Place;
+use pz_rules::pz_syntax::Pos;
 
 /// An internal action that a process offers.
 #[derive(Drop)]

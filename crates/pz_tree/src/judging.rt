@@ -1,28 +1,29 @@
 // What a receive says to a parcel, and what a variable holds.
 
 ghost use Rattle.std.specs.Prelude.{◌≡◌, ◌<◌, [], ◌∷◌, IfOk};
-ghost use Rattle.pz_classes.specs.CheckedView.{checked_model};
-ghost use Rattle.pz_copy.specs.Packing.{IsParcelOf};
+ghost use Rattle.pz_bind.specs.pz_classes.CheckedView.{checked_model};
+ghost use Rattle.pz_rules.specs.pz_copy.Packing.{IsParcelOf};
 ghost use Rattle.pz_nodes.specs.Arena.{find};
-ghost use Rattle.pz_state.specs.States as states;
+ghost use Rattle.pz_rules.specs.pz_state.States as states;
 ghost use Rattle.pz_tree.specs.Asking.{HasReceive, JudgesAt, said_by};
 ghost use Rattle.pz_tree.specs.Trees.{at_in, term_in, process_in, IsFresh};
 ghost use Rattle.pz_tree.specs.devices.Receiving.{ReceiveRule};
-ghost use Rattle.pz_tree_standing.specs.Heads as heads;
-ghost use Rattle.pz_tree_nodes.specs.View.{head_view};
+ghost use Rattle.pz_tree_acting.specs.pz_tree_standing.Heads as heads;
+ghost use Rattle.pz_tree_acting.specs.pz_tree_nodes.View.{head_view};
 ghost use Rattle.pz_rules.specs.Terms as terms;
 ghost use Rattle.pz_rules.specs.View.{term_view};
 
 use crate::tree::Tree;
-use pz_classes::Checked;
-use pz_copy::{Parcel, pack};
+use pz_bind::pz_classes::Checked;
 use pz_nodes::{Nodes, Steps};
-use pz_offer::{Place, Trouble, Verdict};
-use pz_part_queries::judge;
 use pz_rules::Term;
-use pz_state::FrameId;
-use pz_tree_nodes::{Head, Node, Spot, part_at};
-use pz_value::Value;
+use pz_rules::pz_copy::{Parcel, pack};
+use pz_rules::pz_offer::{Place, Trouble, Verdict};
+use pz_rules::pz_state::FrameId;
+use pz_rules::pz_value::Value;
+use pz_term_processes::pz_part_actions::pz_part_queries::judge;
+use pz_tree_acting::pz_tree_regrowing::pz_tree_nodes;
+use pz_tree_acting::pz_tree_regrowing::pz_tree_nodes::{Head, Node, Spot, part_at};
 use std::alloc::AllocError;
 use std::marker::Brand;
 use std::sync::ledger::{Blank, Ledger};

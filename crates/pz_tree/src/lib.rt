@@ -18,3 +18,4 @@ pub use tree::Tree;
 
 // What stands on this names it too, and so has it from here.
 pub use pz_term_processes;
+pub use pz_tree_acting::pz_tree_regrowing::pz_tree_nodes::pz_tree_standing;

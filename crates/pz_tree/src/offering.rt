@@ -1,13 +1,13 @@
 // What a tree offers to others.
 
 ghost use Rattle.std.specs.Prelude.{◌≡◌, ◌<◌, ℕ, IfOk};
-ghost use Rattle.pz_syntax.specs.Classes.{ModelTree};
-ghost use Rattle.pz_classes.specs.CheckedView.{checked_model};
+ghost use Rattle.pz_rules.specs.pz_syntax.Classes.{ModelTree};
+ghost use Rattle.pz_bind.specs.pz_classes.CheckedView.{checked_model};
 ghost use Rattle.pz_bind.specs.NetView.{HasProcess};
 ghost use Rattle.pz_bind.specs.devices.Nets.{IsNet};
-ghost use Rattle.pz_eval.specs.Known.{AreKnown};
+ghost use Rattle.pz_term_processes.specs.pz_eval.Known.{AreKnown};
 ghost use Rattle.pz_nodes.specs.Arena.{find};
-ghost use Rattle.pz_part_queries.specs.Standpoints.{Knows, seen_from};
+ghost use Rattle.pz_term_processes.specs.pz_part_queries.Standpoints.{Knows, seen_from};
 ghost use Rattle.pz_rules.specs.Fitting.{TermFits};
 ghost use Rattle.pz_tree_offering.specs.Offers.{SendsRule, ReceivesRule};
 ghost use Rattle.pz_tree.specs.Asking.{AreSendOffers, AreReceiveOffers};
@@ -16,12 +16,12 @@ ghost use Rattle.pz_tree.specs.devices.Wires.{WireRule, IsSentOver, AreSentOver,
 
 use crate::tree::Tree;
 use pz_bind::Net;
-use pz_classes::Checked;
+use pz_bind::pz_classes::Checked;
 use pz_nodes::{Nodes, Steps};
-use pz_offer::{ReceiveOffer, SendOffer};
-use pz_part_queries::Standpoint;
-use pz_state::State;
-use pz_tree_nodes::{Node, Spot};
+use pz_rules::pz_offer::{ReceiveOffer, SendOffer};
+use pz_rules::pz_state::State;
+use pz_term_processes::pz_part_actions::pz_part_queries::Standpoint;
+use pz_tree_acting::pz_tree_regrowing::pz_tree_nodes::{Node, Spot};
 use pz_tree_offering::{ActiveReceive, ActiveSend, active_receives, active_sends};
 use std::alloc::{AllocError, Global};
 use std::marker::Brand;

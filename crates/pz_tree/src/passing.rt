@@ -2,22 +2,22 @@
 
 ghost use Rattle.std.specs.Prelude.{◌≡◌, ◌≤◌, ◌-◌, ◌+◌, ◌*◌, true, false, None, OnOk, IfSome};
 ghost use Rattle.pz_nodes.specs.Arena.{find};
-ghost use Rattle.pz_classes.specs.CheckedView.{checked_model};
+ghost use Rattle.pz_bind.specs.pz_classes.CheckedView.{checked_model};
 ghost use Rattle.pz_rules.specs.Delays.{Passes};
 ghost use Rattle.pz_rules.specs.Leaving as leaving;
-ghost use Rattle.pz_tree_standing.specs.Summaries.{summary_of};
-ghost use Rattle.pz_tree_standing.specs.Steady.{later};
-ghost use Rattle.pz_tree_standing.specs.Soon.{HasRoom};
+ghost use Rattle.pz_tree_acting.specs.pz_tree_standing.Summaries.{summary_of};
+ghost use Rattle.pz_tree_acting.specs.pz_tree_standing.Steady.{later};
+ghost use Rattle.pz_tree_acting.specs.pz_tree_standing.Soon.{HasRoom};
 ghost use Rattle.pz_tree.specs.Trees.{at_in, term_in, IsFresh, woken_in};
 ghost use Rattle.pz_tree.specs.devices.Resting.{RestRule};
 
 use crate::tree::Tree;
-use pz_classes::Checked;
+use pz_bind::pz_classes::Checked;
 use pz_nodes::{Key, Nodes, Steps};
-use pz_state::FrameId;
+use pz_rules::pz_state::FrameId;
+use pz_tree_acting::pz_tree_regrowing::pz_tree_nodes::Node;
+use pz_tree_elapsing::pz_tree_refreshing::Spot;
 use pz_tree_elapsing::{elapse, rests};
-use pz_tree_nodes::Node;
-use pz_tree_refreshing::Spot;
 use std::alloc::AllocError;
 use std::sync::ledger::Ledger;
 

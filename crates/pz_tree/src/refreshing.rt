@@ -1,14 +1,14 @@
 // What a process is asked is asked again.
 
 ghost use Rattle.std.specs.Prelude.{◌≡◌, ◌≤◌, ◌+◌, ◌*◌, OnOk};
-ghost use Rattle.pz_classes.specs.CheckedView.{checked_model};
+ghost use Rattle.pz_bind.specs.pz_classes.CheckedView.{checked_model};
 ghost use Rattle.pz_tree.specs.Trees.{at_in, process_in, live_in, IsThere, IsFresh};
 
 use crate::tree::Tree;
-use pz_classes::Checked;
+use pz_bind::pz_classes::Checked;
 use pz_nodes::Steps;
-use pz_state::FrameId;
-use pz_tree_refreshing::{Spot, refresh};
+use pz_rules::pz_state::FrameId;
+use pz_tree_elapsing::pz_tree_refreshing::{Spot, refresh};
 use std::alloc::AllocError;
 use std::sync::ledger::Ledger;
 

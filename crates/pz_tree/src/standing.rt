@@ -1,17 +1,17 @@
 // How a tree sees its model and its nodes.
 
 ghost use Rattle.std.specs.Prelude.{◌≡◌};
-ghost use Rattle.pz_syntax.specs.Classes.{ModelTree};
-ghost use Rattle.pz_classes.specs.CheckedView.{checked_model};
-ghost use Rattle.pz_eval.specs.Known.{AreKnown};
-ghost use Rattle.pz_part_queries.specs.Standpoints.{Knows, seen_from};
+ghost use Rattle.pz_rules.specs.pz_syntax.Classes.{ModelTree};
+ghost use Rattle.pz_bind.specs.pz_classes.CheckedView.{checked_model};
+ghost use Rattle.pz_term_processes.specs.pz_eval.Known.{AreKnown};
+ghost use Rattle.pz_term_processes.specs.pz_part_queries.Standpoints.{Knows, seen_from};
 ghost use Rattle.pz_tree.specs.Trees.{at_in};
 
 use crate::tree::Tree;
-use pz_classes::Checked;
-use pz_part_queries::Standpoint;
-use pz_state::FrameId;
-use pz_tree_nodes::Spot;
+use pz_bind::pz_classes::Checked;
+use pz_rules::pz_state::FrameId;
+use pz_term_processes::pz_part_actions::pz_part_queries::Standpoint;
+use pz_tree_acting::pz_tree_regrowing::pz_tree_nodes::Spot;
 
 impl Tree {
     // Where the whole term stands: in no frame.

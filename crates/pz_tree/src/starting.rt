@@ -1,9 +1,9 @@
 // A tree of a process as it begins.
 
 ghost use Rattle.std.specs.Prelude.{◌≡◌, ◌≤◌, ◌<◌, Some, slice_get, IfOk};
-ghost use Rattle.pz_classes.specs.CheckedView.{checked_model};
+ghost use Rattle.pz_bind.specs.pz_classes.CheckedView.{checked_model};
 ghost use Rattle.pz_bind_levels.specs.Places.{Address};
-ghost use Rattle.pz_bind.specs.Nest.{processes, class_at};
+ghost use Rattle.pz_rules.specs.pz_bind_rules.Nest.{processes, class_at};
 ghost use Rattle.pz_bind.specs.NetView.{HasProcess};
 ghost use Rattle.pz_bind.specs.devices.Nets.{IsNet};
 ghost use Rattle.pz_rules.specs.Starting.{StartsAs};
@@ -14,12 +14,12 @@ ghost use Rattle.pz_tree.specs.Trees.{at_in, process_in, IsFresh, IsThere};
 
 use crate::tree::Tree;
 use pz_bind::Net;
-use pz_classes::Checked;
+use pz_bind::pz_classes::Checked;
 use pz_nodes::{Nodes, Steps};
+use pz_rules::pz_state::State;
 use pz_rules::{Limits, Term};
-use pz_state::State;
 use pz_term_processes::Process;
-use pz_tree_nodes::plant;
+use pz_tree_acting::pz_tree_regrowing::pz_tree_nodes::plant;
 use std::alloc::{AllocError, Global};
 use std::marker::Brand;
 use std::mem;

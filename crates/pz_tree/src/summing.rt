@@ -1,23 +1,25 @@
 // What a tree keeps of its whole term.
 
 ghost use Rattle.std.specs.Prelude.{◌≡◌, ◌<◌, option_map, slice_get, IfOk};
-ghost use Rattle.pz_syntax.specs.Classes.{ModelTree};
+ghost use Rattle.pz_rules.specs.pz_syntax.Classes.{ModelTree};
 ghost use Rattle.pz_nodes.specs.Arena.{find};
 ghost use Rattle.pz_rules.specs.Leaving as leaving;
 ghost use Rattle.pz_rules.specs.devices.Walk.{internal_actions};
-ghost use Rattle.pz_tree_standing.specs.Summaries.{summary_of};
-ghost use Rattle.pz_tree_standing.specs.Woken.{clocked};
+ghost use Rattle.pz_tree_acting.specs.pz_tree_standing.Summaries.{summary_of};
+ghost use Rattle.pz_tree_acting.specs.pz_tree_standing.Woken.{clocked};
 ghost use Rattle.pz_tree.specs.Asking.{noted_view};
 ghost use Rattle.pz_tree.specs.Trees.{at_in, term_in, IsThere, IsFresh};
-ghost use Rattle.pz_tree_nodes.specs.Choosing as choosing;
-ghost use Rattle.pz_tree_nodes.specs.Choosing.{ChoiceRule};
+ghost use Rattle.pz_tree_acting.specs.pz_tree_nodes.Choosing as choosing;
+ghost use Rattle.pz_tree_acting.specs.pz_tree_nodes.Choosing.{ChoiceRule};
 ghost use Rattle.pz_tree.specs.devices.Kept.{KeptRule};
 
 use crate::found::InternalAction;
 use crate::tree::Tree;
 use pz_nodes::{Key, Nodes, Steps};
-use pz_offer::Summary;
-use pz_tree_nodes::{ActingPart, Kept, Node, Part, Spot, kth_internal};
+use pz_rules::pz_offer::Summary;
+use pz_tree_acting::pz_tree_regrowing::pz_tree_nodes::{
+    ActingPart, Kept, Node, Part, Spot, kth_internal,
+};
 use std::alloc::{AllocError, Global};
 use std::marker::Brand;
 use std::sync::ledger::{Blank, Ledger};

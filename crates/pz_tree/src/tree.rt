@@ -1,8 +1,8 @@
 use pz_nodes::{Key, Nodes};
 use pz_rules::Limits;
-use pz_state::State;
-use pz_tree_nodes::Node;
-use pz_value::ClassId;
+use pz_rules::pz_state::State;
+use pz_rules::pz_value::ClassId;
+use pz_tree_acting::pz_tree_regrowing::pz_tree_nodes::Node;
 use std::alloc::Global;
 
 /// What is left of one process, as nodes that keep in short what can be done below them, and its state.

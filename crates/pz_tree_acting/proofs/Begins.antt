@@ -1,33 +1,33 @@
 -- A part that is found in the nodes does its deed under a mark.
 use Rattle.std.proofs.Common.{◌≡◌, ◌≤◌, ◌+◌, arith, ℕ, List, [], ◌∷◌, length, Option, Result, Ok, Err, sym, subst, ap, ◌∙◌}
 use Rattle.std.specs.Prelude.{MatchResult, IfOk}
-use Rattle.pz_syntax.specs.declared.tokens.Pos.{Pos}
-use Rattle.pz_copy.specs.Parcels.{ParcelView}
+use Rattle.pz_classes_code.specs.pz_syntax.declared.tokens.Pos.{Pos}
+use Rattle.pz_rules.specs.pz_copy.Parcels.{ParcelView}
 use Rattle.pz_nodes_shapes.specs.Rose.{Map}
 use Rattle.pz_nodes_shapes.specs.Seen.{seen}
-use Rattle.pz_offer.specs.PlaceOrder.{Place}
-use Rattle.pz_offer.specs.declared.trouble.Trouble.{Trouble}
+use Rattle.pz_rules.specs.pz_offer.PlaceOrder.{Place}
+use Rattle.pz_rules.specs.pz_offer.declared.trouble.Trouble.{Trouble}
 use Rattle.pz_part_actions.specs.Becoming.{HasPerformed, process_left}
 use Rattle.pz_rules.specs.declared.action.Kind.{Kind}
 use Rattle.pz_rules.specs.InternalActions.{Can}
 use Rattle.pz_part_actions.specs.Homes.{seen_home}
-use Rattle.pz_part_opening.specs.declared.home.Home.{Home}
-use Rattle.pz_part_queries.specs.Parts.{IsPartAt}
-use Rattle.pz_part_queries.specs.declared.standpoint.Standpoint.{Standpoint}
+use Rattle.pz_part_actions.specs.pz_part_opening.declared.home.Home.{Home}
+use Rattle.pz_part_actions.specs.pz_part_queries.Parts.{IsPartAt}
+use Rattle.pz_part_actions.specs.pz_part_queries.declared.standpoint.Standpoint.{Standpoint}
 use Rattle.pz_rules.specs.declared.term.Term as code
 use Rattle.pz_rules.specs.Laws.{part_of, WhatCanActs, WhatSendsIsASend, WhatReceivesIsAReceive}
 use Rattle.pz_rules.specs.Settings.{Context, Process, left_by}
 use Rattle.pz_rules.specs.Terms.{Term, child}
 use Rattle.pz_rules.specs.View.{term_view}
-use Rattle.pz_state.specs.Marks.{Seen, marked, undone, undone_from}
-use Rattle.pz_state.specs.States.{StateView}
-use Rattle.pz_tree_standing.specs.Frames.{open_as, HaveOpened, PartsOpen, PerformedOpens, HandedOpens, TakenOpens}
-use Rattle.pz_tree_standing.specs.FrameCounts.{times}
-use Rattle.pz_tree_nodes.specs.declared.node.What.{What}
-use Rattle.pz_tree_nodes.specs.View.{Plant, what_view, term_in_option}
+use Rattle.pz_rules.specs.pz_state.Marks.{Seen, marked, undone, undone_from}
+use Rattle.pz_rules.specs.pz_state.States.{StateView}
+use Rattle.pz_tree_regrowing.specs.pz_tree_standing.Frames.{open_as, HaveOpened, PartsOpen, PerformedOpens, HandedOpens, TakenOpens}
+use Rattle.pz_tree_regrowing.specs.pz_tree_standing.FrameCounts.{times}
+use Rattle.pz_tree_regrowing.specs.pz_tree_nodes.declared.node.What.{What}
+use Rattle.pz_tree_regrowing.specs.pz_tree_nodes.View.{Plant, what_view, term_in_option}
 use Rattle.pz_rules.specs.Short.{IsShort}
 use Rattle.pz_tree_regrowing.specs.Costs.{on_way}
-use Rattle.pz_tree_nodes.specs.Seeking.{SeekRule, ActiveAtPlace, TendedStand}
+use Rattle.pz_tree_regrowing.specs.pz_tree_nodes.Seeking.{SeekRule, ActiveAtPlace, TendedStand}
 use Rattle.pz_tree_acting.specs.declared.how.How.{How}
 use Rattle.pz_tree_acting.specs.declared.how.How.TheVariants.{Internal, Send, Receive}
 use Rattle.pz_tree_acting.specs.declared.beginning.Begun.{Begun}

@@ -1,18 +1,18 @@
 -- What a part becomes has short delays: none that has begun.
 use Rattle.std.proofs.Common.{ℕ, Bool, true, false, List, length, Result, Ok, Err}
-use Rattle.pz_syntax.specs.Statements as statement
-use Rattle.pz_value.specs.declared.value.ClassId.{ClassId}
+use Rattle.pz_classes_code.specs.pz_syntax.Statements as statement
+use Rattle.pz_classes_code.specs.pz_value.declared.value.ClassId.{ClassId}
 use Rattle.pz_classes_code.specs.declared.slot.Slot.{Slot}
-use Rattle.pz_state.specs.States.{StateView}
+use Rattle.pz_rules.specs.pz_state.States.{StateView}
 use Rattle.pz_rules.specs.Terms.{Step, Steps, Term}
 use Rattle.pz_rules.specs.Settings.{Process, Context, home_of}
 use Rattle.pz_rules.specs.FrameNumbers.{least_free}
 use Rattle.pz_rules.specs.Opening.{opened_all}
 use Rattle.std.specs.Prelude.{IfOk}
-use Rattle.pz_syntax.specs.declared.tokens.Pos.{Pos}
-use Rattle.pz_value.specs.declared.value.Value.{Value}
-use Rattle.pz_copy.specs.Parcels.{ParcelView}
-use Rattle.pz_offer.specs.declared.trouble.Trouble.{Trouble}
+use Rattle.pz_classes_code.specs.pz_syntax.declared.tokens.Pos.{Pos}
+use Rattle.pz_classes_code.specs.pz_value.declared.value.Value.{Value}
+use Rattle.pz_rules.specs.pz_copy.Parcels.{ParcelView}
+use Rattle.pz_rules.specs.pz_offer.declared.trouble.Trouble.{Trouble}
 use Rattle.pz_rules.specs.declared.term.Term as code
 use Rattle.pz_rules.specs.Meanings.{and_then, truth}
 use Rattle.pz_rules.specs.InternalActions as actions

@@ -1,19 +1,19 @@
 -- What is left of a process, once what its part did stays or is undone.
 use Rattle.std.proofs.Common.{◌≡◌, ◌≤◌, ℕ, Bool, true, List, [], ◌++◌, ◌+◌, ◌*◌, arith, Result, Ok, Err, Option, refl, sym, subst, ap, ◌∙◌}
 use Rattle.std.specs.Prelude.{if◌then◌else◌, nat_le, IfOk}
-use Rattle.pz_syntax.specs.declared.tokens.Pos.{Pos}
-use Rattle.pz_state.specs.States.{StateView}
-use Rattle.pz_state.specs.Marks.{Seen, IsLatest, point_of_first, undone, undone_from, kept, older}
-use Rattle.pz_copy.specs.Parcels.{ParcelView}
+use Rattle.pz_classes_code.specs.pz_syntax.declared.tokens.Pos.{Pos}
+use Rattle.pz_rules.specs.pz_state.States.{StateView}
+use Rattle.pz_rules.specs.pz_state.Marks.{Seen, IsLatest, point_of_first, undone, undone_from, kept, older}
+use Rattle.pz_rules.specs.pz_copy.Parcels.{ParcelView}
 use Rattle.pz_nodes_shapes.specs.Rose.{Map}
-use Rattle.pz_offer.specs.PlaceOrder.{Place}
-use Rattle.pz_offer.specs.declared.trouble.Trouble.{Trouble}
-use Rattle.pz_offer.specs.declared.trouble.Trouble.TheVariants.{High}
-use Rattle.pz_part_opening.specs.declared.home.Home as opening
-use Rattle.pz_part_opening.specs.Homes.{home_view}
+use Rattle.pz_rules.specs.pz_offer.PlaceOrder.{Place}
+use Rattle.pz_rules.specs.pz_offer.declared.trouble.Trouble.{Trouble}
+use Rattle.pz_rules.specs.pz_offer.declared.trouble.Trouble.TheVariants.{High}
+use Rattle.pz_part_actions.specs.pz_part_opening.declared.home.Home as opening
+use Rattle.pz_part_actions.specs.pz_part_opening.Homes.{home_view}
 use Rattle.pz_part_actions.specs.Becoming.{process_left}
 use Rattle.pz_part_actions.specs.Homes.{seen_home}
-use Rattle.pz_part_queries.specs.declared.standpoint.Standpoint.{Standpoint}
+use Rattle.pz_part_actions.specs.pz_part_queries.declared.standpoint.Standpoint.{Standpoint}
 use Rattle.pz_rules.specs.declared.term.Term as code
 use Rattle.pz_rules.specs.Becoming.{Became}
 use Rattle.pz_rules.specs.Terms.{Term, height, frames_in}
@@ -26,13 +26,13 @@ use Rattle.pz_rules.specs.Leaving.{residual, swept}
 use Rattle.pz_rules.specs.Meanings.{and_then}
 use Rattle.pz_rules.specs.Places.{MayAct}
 use Rattle.pz_rules.specs.View.{term_view}
-use Rattle.pz_tree_nodes.specs.declared.node.What.{What}
-use Rattle.pz_tree_nodes.specs.View.{Plant, term_in_option}
-use Rattle.pz_tree_standing.specs.FrameCounts.{count_in, times, lost_all, gained_all}
-use Rattle.pz_tree_standing.specs.Laws.{FramesStandOrAreLost}
-use Rattle.pz_tree_standing.proofs.FrameCounts.{count_append}
-use Rattle.pz_tree_standing.specs.Frames.{open_as, FramesStand, HaveOpened, AroundOpens}
-use Rattle.pz_tree_nodes.specs.Seeking.{ActiveAtPlace}
+use Rattle.pz_tree_regrowing.specs.pz_tree_nodes.declared.node.What.{What}
+use Rattle.pz_tree_regrowing.specs.pz_tree_nodes.View.{Plant, term_in_option}
+use Rattle.pz_tree_regrowing.specs.pz_tree_standing.FrameCounts.{count_in, times, lost_all, gained_all}
+use Rattle.pz_tree_regrowing.specs.pz_tree_standing.Laws.{FramesStandOrAreLost}
+use Rattle.pz_tree_regrowing.proofs.pz_tree_standing_proofs.FrameCounts.{count_append}
+use Rattle.pz_tree_regrowing.specs.pz_tree_standing.Frames.{open_as, FramesStand, HaveOpened, AroundOpens}
+use Rattle.pz_tree_regrowing.specs.pz_tree_nodes.Seeking.{ActiveAtPlace}
 use Rattle.pz_term_residual.specs.Laws.{ActivePartsMayAct}
 use Rattle.pz_rules.specs.Short.{IsShort}
 use Rattle.pz_tree_regrowing.specs.Costs.{on_way, made_all, dropped_all}

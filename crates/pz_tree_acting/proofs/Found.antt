@@ -1,22 +1,22 @@
 -- The part that is found is the part that can act.
 use Rattle.std.proofs.Common.{◌≡◌, ℕ, Option, Some, None, refl, sym, ap, ◌∙◌, subst}
-use Rattle.pz_syntax.specs.declared.tokens.Pos.{Pos}
+use Rattle.pz_classes_code.specs.pz_syntax.declared.tokens.Pos.{Pos}
 use Rattle.pz_nodes_shapes.specs.declared.node.Node.{Node}
 use Rattle.pz_nodes_shapes.specs.Rose.{node, Map, root, roots, Stands}
 use Rattle.pz_nodes_shapes.specs.Seen.{seen, seen_node}
-use Rattle.pz_offer.specs.PlaceOrder.{Place}
+use Rattle.pz_rules.specs.pz_offer.PlaceOrder.{Place}
 use Rattle.pz_rules.specs.Laws.{part_of}
 use Rattle.pz_rules.specs.Settings.{Context}
 use Rattle.pz_rules.specs.Terms.{Term, Terms, done}
 use Rattle.pz_rules.specs.Terms as term
-use Rattle.pz_part_queries.specs.Parts.{IsPartAt}
-use Rattle.pz_tree_standing.specs.Heads.{Head, What, formed, leaf, wait, sequence, parallel, select, guarded, frame, abort, idle, handling, shifted}
-use Rattle.pz_tree_standing.specs.Standing.{terms_of}
-use Rattle.pz_tree_standing.specs.Whole.{IsNoShift}
-use Rattle.pz_tree_nodes.specs.declared.node.What as lying
-use Rattle.pz_tree_nodes.specs.View.{Plant, head_view, what_view, term_in_option}
-use Rattle.pz_tree_nodes.specs.Seeking.{frame_at, StandsUnder, IsBareUnder, IsFound, ActiveAtPlace, TendedStand}
-use Rattle.pz_copy.specs.Parcels.{ParcelView}
+use Rattle.pz_part_actions.specs.pz_part_queries.Parts.{IsPartAt}
+use Rattle.pz_tree_regrowing.specs.pz_tree_standing.Heads.{Head, What, formed, leaf, wait, sequence, parallel, select, guarded, frame, abort, idle, handling, shifted}
+use Rattle.pz_tree_regrowing.specs.pz_tree_standing.Standing.{terms_of}
+use Rattle.pz_tree_regrowing.specs.pz_tree_standing.Whole.{IsNoShift}
+use Rattle.pz_tree_regrowing.specs.pz_tree_nodes.declared.node.What as lying
+use Rattle.pz_tree_regrowing.specs.pz_tree_nodes.View.{Plant, head_view, what_view, term_in_option}
+use Rattle.pz_tree_regrowing.specs.pz_tree_nodes.Seeking.{frame_at, StandsUnder, IsBareUnder, IsFound, ActiveAtPlace, TendedStand}
+use Rattle.pz_rules.specs.pz_copy.Parcels.{ParcelView}
 use Rattle.pz_tree_acting.specs.declared.how.How.{How}
 use Rattle.pz_tree_acting.specs.declared.how.How.TheVariants.{Internal, Send, Receive}
 use Rattle.pz_tree_acting.specs.Deeds.{able}
@@ -64,7 +64,7 @@ pub vacant_under : (m : Map What) (key : Option ℕ) (k c : ℕ) (t : Term) → 
 vacant_under m None k c t is v u stands bare simple = absurd cc
 vacant_under m (Some j) k c t is v u stands bare simple = none stands.shape stands.stands stands.under
   where
-    none : (s : Rattle.pz_tree_standing.specs.Heads.Shape) → Stands m s → root s ≡ j → t ≡ u
+    none : (s : Rattle.pz_tree_regrowing.specs.pz_tree_standing.Heads.Shape) → Stands m s → root s ≡ j → t ≡ u
     none (node i x ss) st under = absurd (let e : j ≡ k = cc in let w = st.0 in cc)
 
 pub part_under : (m : Map lying.What) (key : Option ℕ) (k c : ℕ) (n : Node lying.What) (t : Term) → key ≡ Some k → Some n ≡ m k → HeadRule (head_view n.what.head) c t → PartRule (seen what_view m) key c t
@@ -74,13 +74,13 @@ part_under m (Some j) k c n t is stood rule u stands bare simple = by stands.sha
     same : (a b : Node What) → ◌≡◌ {A = Option (Node What)} (Some a) (Some b) → a ≡ b
     same a b e = cc
 
-    by : (s : Rattle.pz_tree_standing.specs.Heads.Shape) → Stands (seen what_view m) s → root s ≡ j → u ≡ Rattle.pz_tree_standing.specs.Standing.term_of c s → t ≡ u
+    by : (s : Rattle.pz_tree_regrowing.specs.pz_tree_standing.Heads.Shape) → Stands (seen what_view m) s → root s ≡ j → u ≡ Rattle.pz_tree_regrowing.specs.pz_tree_standing.Standing.term_of c s → t ≡ u
     by (node i x ss) st under means =
         let here : seen what_view m j ≡ Some (seen_node what_view n) = ap (λ (o : Option (Node lying.What)). Rattle.std.specs.Prelude.option_map (seen_node what_view) o) (ap m (let e : j ≡ k = cc in e) ∙ sym stood) in
         let is_node : seen_node what_view n ≡ record { what = x; kids = roots ss } = same (seen_node what_view n) (record { what = x; kids = roots ss }) (sym here ∙ ap (seen what_view m) (sym under) ∙ st.0) in
         let head : head_view n.what.head ≡ x.head = ap (λ (o : Node What). o.what.head) is_node in
         let ts = terms_of x.head c 0 ss in
-        let bare_here : IsNoShift (head_view n.what.head) = subst Rattle.pz_tree_nodes.specs.Seeking.IsBare here bare in
+        let bare_here : IsNoShift (head_view n.what.head) = subst Rattle.pz_tree_regrowing.specs.pz_tree_nodes.Seeking.IsBare here bare in
         let is_formed : u ≡ formed (head_view n.what.head) c ts = means ∙ ap (λ h. formed h c ts) (sym head) in
         rule ts bare_here (subst IsSimple is_formed simple) ∙ sym is_formed
 

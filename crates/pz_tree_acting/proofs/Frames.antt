@@ -4,9 +4,9 @@ use Rattle.std.specs.Prelude.{if◌then◌else◌}
 use Rattle.std.proofs.Common.{eq-eqb}
 use Rattle.std.proofs.lemmas.Bool.{ne_eqb, eqb-true}
 use Rattle.std.specs.List.{list_any, filter, AllPairs}
-use Rattle.pz_value.specs.declared.value.Value.{Value}
-use Rattle.pz_state.specs.States.{StateView, Frames}
-use Rattle.pz_state.specs.Marks.{Seen, changed}
+use Rattle.pz_classes_code.specs.pz_value.declared.value.Value.{Value}
+use Rattle.pz_rules.specs.pz_state.States.{StateView, Frames}
+use Rattle.pz_rules.specs.pz_state.Marks.{Seen, changed}
 use Rattle.pz_rules.specs.declared.limits.Edition.{Edition}
 use Rattle.pz_rules.specs.declared.limits.Edition.TheVariants.{One, Two}
 use Rattle.pz_rules.specs.Terms.{Term, frames_in}
@@ -14,12 +14,12 @@ use Rattle.pz_rules.specs.Leaving.{only_frames}
 use Rattle.std.specs.List.Sorted.{IsPermutation}
 use Rattle.std.proofs.lemmas.List.Elements.{filter_agree}
 use Rattle.std.proofs.lemmas.List.Sorted.{list_any-IsPermutation}
-use Rattle.pz_state.specs.declared.state.FrameId.{FrameId}
-use Rattle.pz_tree_nodes.specs.Dropping as dropping
+use Rattle.pz_rules.specs.pz_state.declared.state.FrameId.{FrameId}
+use Rattle.pz_tree_regrowing.specs.pz_tree_nodes.Dropping as dropping
 use Rattle.pz_tree_acting.specs.devices.Closing.{HasListed, AlsoLists, OnlyListed, LostRule, ListedRule, StandBy, CloseRule}
-use Rattle.pz_term_residual.specs.Closing.{without_frames}
-use Rattle.pz_tree_standing.specs.FrameCounts.{count_in, times}
-use Rattle.pz_tree_standing.specs.Frames.{numbers, open_as, FramesStand}
+use Rattle.pz_term_frames.specs.Closing.{without_frames}
+use Rattle.pz_tree_regrowing.specs.pz_tree_standing.FrameCounts.{count_in, times}
+use Rattle.pz_tree_regrowing.specs.pz_tree_standing.Frames.{numbers, open_as, FramesStand}
 
 -- ------------------------------------------------------------ among numbers
 

@@ -2,13 +2,13 @@
 use Rattle.std.proofs.Common.{◌≡◌, ℕ, Result, Ok, Err, refl, sym, subst, ap, ◌∙◌}
 use Rattle.std.specs.Prelude.{MatchResult, IfOk}
 use Rattle.std.proofs.Math.Logic.{∥∥₁_map}
-use Rattle.pz_syntax.specs.declared.tokens.Pos.{Pos}
-use Rattle.pz_syntax.specs.Classes.{ModelTree}
-use Rattle.pz_value.specs.declared.value.ClassId.{ClassId}
-use Rattle.pz_state.specs.States.{StateView}
-use Rattle.pz_state.specs.Marks.{Seen, marked, undone}
-use Rattle.pz_offer.specs.PlaceOrder.{Place}
-use Rattle.pz_offer.specs.declared.trouble.Trouble.{Trouble}
+use Rattle.pz_classes_code.specs.pz_syntax.declared.tokens.Pos.{Pos}
+use Rattle.pz_classes_code.specs.pz_syntax.Classes.{ModelTree}
+use Rattle.pz_classes_code.specs.pz_value.declared.value.ClassId.{ClassId}
+use Rattle.pz_rules.specs.pz_state.States.{StateView}
+use Rattle.pz_rules.specs.pz_state.Marks.{Seen, marked, undone}
+use Rattle.pz_rules.specs.pz_offer.PlaceOrder.{Place}
+use Rattle.pz_rules.specs.pz_offer.declared.trouble.Trouble.{Trouble}
 use Rattle.pz_rules.specs.Terms.{Term}
 use Rattle.pz_rules.specs.Settings.{Process, Context, left_by, Home, home_of}
 use Rattle.pz_rules.specs.Leaving.{residual, swept, settled}
@@ -16,12 +16,12 @@ use Rattle.pz_rules.specs.Meanings.{and_then}
 use Rattle.pz_rules.specs.Steps.{Deed}
 use Rattle.pz_rules.specs.View.{term_view}
 use Rattle.pz_rules.specs.devices.Ends.{ActivePartsFit}
-use Rattle.pz_eval.specs.Known.{AreKnown}
-use Rattle.pz_part_queries.specs.declared.standpoint.Standpoint.{Standpoint}
-use Rattle.pz_part_queries.specs.Standpoints.{Knows, seen_from}
+use Rattle.pz_part_actions.specs.pz_eval.Known.{AreKnown}
+use Rattle.pz_part_actions.specs.pz_part_queries.declared.standpoint.Standpoint.{Standpoint}
+use Rattle.pz_part_actions.specs.pz_part_queries.Standpoints.{Knows, seen_from}
 use Rattle.pz_rules.specs.Places.{MayAct}
 use Rattle.pz_term_residual.specs.Laws.{ActivePartsMayAct}
-use Rattle.pz_part_queries.specs.Parts.{IsPartAt}
+use Rattle.pz_part_actions.specs.pz_part_queries.Parts.{IsPartAt}
 use Rattle.pz_part_actions.specs.Becoming.{Becomes}
 use Rattle.pz_part_actions.specs.Becoming as becoming
 use Rattle.pz_part_actions.specs.Fitting.{FitsHere}

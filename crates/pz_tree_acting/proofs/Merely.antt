@@ -3,21 +3,21 @@ use Rattle.std.proofs.Common.{◌≡◌, ℕ, Option, Some, None, Result, Ok, Er
 use Rattle.std.proofs.Math.Logic.{∥∥₁_elim, ∥∥₁_map}
 use Rattle.std.proofs.Math.Bridge.{le_prop}
 use Rattle.std.proofs.Math.Nat.{ℕ_set}
-use Rattle.pz_syntax.specs.declared.tokens.Pos.{Pos}
-use Rattle.pz_syntax.specs.Statements.{skip, delay, bracketed, block, guarded, parallel, select, conditional, repeated, abort, interrupt, send, receive, call, assignment, value}
-use Rattle.pz_offer.specs.declared.trouble.Trouble.{Trouble}
+use Rattle.pz_classes_code.specs.pz_syntax.declared.tokens.Pos.{Pos}
+use Rattle.pz_classes_code.specs.pz_syntax.Statements.{skip, delay, bracketed, block, guarded, parallel, select, conditional, repeated, abort, interrupt, send, receive, call, assignment, value}
+use Rattle.pz_rules.specs.pz_offer.declared.trouble.Trouble.{Trouble}
 use Rattle.pz_rules.specs.Acting.{ActsAlone, IsActing, IsSend, IsReceive}
 use Rattle.pz_rules.specs.Terms as term
 use Rattle.pz_rules.specs.Terms.{Step, Term, Terms, done, no_terms, and}
 use Rattle.pz_rules.specs.View.{term_view}
 use Rattle.pz_rules.specs.declared.limits.Edition.{Edition}
 use Rattle.pz_rules.specs.declared.limits.Edition.TheVariants.{One, Two}
-use Rattle.pz_state.specs.Marks.{Seen, IsLatest, point_of_first}
-use Rattle.pz_state.specs.States.{StateView}
-use Rattle.pz_tree_standing.specs.Frames.{open_as, HaveOpened}
+use Rattle.pz_rules.specs.pz_state.Marks.{Seen, IsLatest, point_of_first}
+use Rattle.pz_rules.specs.pz_state.States.{StateView}
+use Rattle.pz_tree_regrowing.specs.pz_tree_standing.Frames.{open_as, HaveOpened}
 use Rattle.pz_rules.specs.Short.{IsShort, AreShort}
-use Rattle.pz_tree_standing.specs.Soon.{HasRoom}
-use Rattle.pz_tree_standing.specs.FrameCounts.{times}
+use Rattle.pz_tree_regrowing.specs.pz_tree_standing.Soon.{HasRoom}
+use Rattle.pz_tree_regrowing.specs.pz_tree_standing.FrameCounts.{times}
 use Rattle.pz_tree_acting.specs.declared.beginning.Begun.{Begun}
 use Rattle.pz_tree_acting.specs.declared.how.How.{How}
 use Rattle.pz_tree_acting.specs.declared.how.How.TheVariants.{Internal, Send, Receive}

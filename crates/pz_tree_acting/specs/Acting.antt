@@ -1,26 +1,26 @@
 -- What an action makes of a process whose term stands in nodes.
 use Rattle.std.specs.Prelude.{◌≡◌, ◌≤◌, ◌+◌, ◌*◌, ℕ, Option, Result, Ok, Err, IfOk}
-use Rattle.pz_copy.specs.Parcels.{ParcelView}
+use Rattle.pz_rules.specs.pz_copy.Parcels.{ParcelView}
 use Rattle.pz_nodes_shapes.specs.Rose.{Map, has_option}
 use Rattle.pz_nodes_shapes.specs.Change.{BecomesOption}
-use Rattle.pz_offer.specs.PlaceOrder.{Place}
-use Rattle.pz_offer.specs.declared.trouble.Trouble.{Trouble}
+use Rattle.pz_rules.specs.pz_offer.PlaceOrder.{Place}
+use Rattle.pz_rules.specs.pz_offer.declared.trouble.Trouble.{Trouble}
 use Rattle.pz_part_actions.specs.Fitting.{FitsHere}
 use Rattle.pz_part_actions.specs.Homes.{seen_home}
-use Rattle.pz_part_opening.specs.declared.home.Home.{Home}
-use Rattle.pz_part_queries.specs.declared.standpoint.Standpoint.{Standpoint}
+use Rattle.pz_part_actions.specs.pz_part_opening.declared.home.Home.{Home}
+use Rattle.pz_part_actions.specs.pz_part_queries.declared.standpoint.Standpoint.{Standpoint}
 use Rattle.pz_rules.specs.Terms.{Term}
 use Rattle.pz_rules.specs.Settings.{Context, Process, left_by, home_of}
 use Rattle.pz_rules.specs.Steps.{Deed}
-use Rattle.pz_state.specs.Marks.{Seen}
-use Rattle.pz_state.specs.States.{StateView}
-use Rattle.pz_tree_standing.specs.Frames.{FramesStand}
-use Rattle.pz_tree_nodes.specs.declared.node.What.{What}
-use Rattle.pz_tree_nodes.specs.View.{Plant, term_in_option}
-use Rattle.pz_tree_nodes.specs.Tended.{TendedOption}
-use Rattle.pz_tree_nodes.specs.Planting.{root_of}
+use Rattle.pz_rules.specs.pz_state.Marks.{Seen}
+use Rattle.pz_rules.specs.pz_state.States.{StateView}
+use Rattle.pz_tree_regrowing.specs.pz_tree_standing.Frames.{FramesStand}
+use Rattle.pz_tree_regrowing.specs.pz_tree_nodes.declared.node.What.{What}
+use Rattle.pz_tree_regrowing.specs.pz_tree_nodes.View.{Plant, term_in_option}
+use Rattle.pz_tree_regrowing.specs.pz_tree_nodes.Tended.{TendedOption}
+use Rattle.pz_tree_regrowing.specs.pz_tree_nodes.Planting.{root_of}
 use Rattle.pz_rules.specs.Short.{IsShort}
-use Rattle.pz_tree_standing.specs.Soon.{HasRoom}
+use Rattle.pz_tree_regrowing.specs.pz_tree_standing.Soon.{HasRoom}
 use Rattle.pz_tree_regrowing.specs.Costs.{on_way, made_all, dropped_all}
 use Rattle.pz_tree_regrowing.specs.Regrowing.{StandsOption}
 use Rattle.pz_tree_acting.specs.declared.how.How.{How}

@@ -1,14 +1,14 @@
 // An action takes place, or is tried.
 
 ghost use Rattle.std.specs.Prelude.{◌≡◌, IfOk, OnErr, OnOk};
-ghost use Rattle.pz_classes.specs.CheckedView.{checked_model};
+ghost use Rattle.pz_part_actions.specs.pz_classes.CheckedView.{checked_model};
 ghost use Rattle.pz_nodes.specs.Arena.{find};
-ghost use Rattle.pz_part_queries.specs.Standpoints.{Knows};
-ghost use Rattle.pz_part_opening.specs.Homes.{home_view};
+ghost use Rattle.pz_part_actions.specs.pz_part_queries.Standpoints.{Knows};
+ghost use Rattle.pz_part_actions.specs.pz_part_opening.Homes.{home_view};
 ghost use Rattle.pz_rules.specs.View.{term_view};
-ghost use Rattle.pz_state.specs.Marks.{IsLatest};
+ghost use Rattle.pz_rules.specs.pz_state.Marks.{IsLatest};
 ghost use Rattle.pz_rules.specs.Short.{IsShort};
-ghost use Rattle.pz_tree_standing.specs.Soon.{HasRoom};
+ghost use Rattle.pz_tree_regrowing.specs.pz_tree_standing.Soon.{HasRoom};
 ghost use Rattle.pz_tree_acting.specs.Acting.{MayBeDone, ActRule, TrialRule, TrialSteps};
 ghost use Rattle.pz_tree_acting.specs.devices.Begun.{MayGoOn, StayRule};
 
@@ -16,12 +16,12 @@ use crate::beginning::{Begun, begin};
 use crate::closing::{close_frames, list_part, open_frames};
 use crate::how::How;
 use pz_nodes::{Key, Nodes, Steps};
-use pz_offer::Trouble;
-use pz_part_opening::Home;
-use pz_part_queries::Standpoint;
-use pz_state::{FrameId, State};
-use pz_tree_nodes::{Node, Spot};
-use pz_tree_regrowing::regrow;
+use pz_part_actions::pz_part_opening::Home;
+use pz_part_actions::pz_part_queries::Standpoint;
+use pz_rules::pz_offer::Trouble;
+use pz_rules::pz_state::{FrameId, State};
+use pz_tree_regrowing::pz_tree_nodes::{Node, Spot, pz_tree_standing};
+use pz_tree_regrowing::{pz_tree_nodes, regrow};
 use std::alloc::{AllocError, Global};
 use std::sync::ledger::Ledger;
 

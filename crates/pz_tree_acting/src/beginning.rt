@@ -2,14 +2,14 @@
 // as it was. After want of memory, which is the only error, nothing is promised of the state.
 
 ghost use Rattle.std.specs.Prelude.{◌≡◌, ◌≤◌, ◌+◌, ℕ, IfOk, OnOk, MatchResult};
-ghost use Rattle.pz_classes.specs.CheckedView.{checked_model};
+ghost use Rattle.pz_part_actions.specs.pz_classes.CheckedView.{checked_model};
 ghost use Rattle.pz_nodes.specs.Arena.{find};
 ghost use Rattle.pz_part_actions.specs.Becoming.{process_left};
 ghost use Rattle.pz_part_actions.specs.Fitting.{FitsHere};
-ghost use Rattle.pz_part_queries.specs.Standpoints.{Knows};
+ghost use Rattle.pz_part_actions.specs.pz_part_queries.Standpoints.{Knows};
 ghost use Rattle.pz_rules.specs.Acting.{IsSend, IsReceive};
 ghost use Rattle.pz_rules.specs.View.{term_view};
-ghost use Rattle.pz_state.specs.Marks.{IsLatest, undone};
+ghost use Rattle.pz_rules.specs.pz_state.Marks.{IsLatest, undone};
 ghost use Rattle.pz_rules.specs.Short.{IsShort};
 ghost use Rattle.pz_tree_regrowing.specs.Heights.{FewSteps};
 ghost use Rattle.pz_tree_acting.specs.Acting.{MayBeDone, TrialSteps};
@@ -17,17 +17,17 @@ ghost use Rattle.pz_tree_acting.specs.devices.Begun.{ActsSo, IsHanded, IsTaken, 
 
 use crate::how::How;
 use crate::parts::part_under;
-use pz_copy::Parcel;
+use pz_classes_code::pz_syntax::Pos;
 use pz_nodes::{Key, Nodes, Steps};
-use pz_offer::Trouble;
+use pz_part_actions::pz_part_opening::Home;
+use pz_part_actions::pz_part_queries::Standpoint;
 use pz_part_actions::{at_home, done_by, hand, perform, pos_of, take};
-use pz_part_opening::Home;
-use pz_part_queries::Standpoint;
 use pz_rules::Term;
-use pz_state::{FrameId, Savepoint, State};
-use pz_syntax::Pos;
-use pz_tree_nodes::{Node, Spot, part_at};
-use pz_tree_regrowing::stays_low;
+use pz_rules::pz_copy::Parcel;
+use pz_rules::pz_offer::Trouble;
+use pz_rules::pz_state::{FrameId, Savepoint, State};
+use pz_tree_regrowing::pz_tree_nodes::{Node, Spot, part_at, pz_tree_standing};
+use pz_tree_regrowing::{pz_tree_nodes, stays_low};
 use std::alloc::{AllocError, Global};
 use std::sync::ledger::Ledger;
 

@@ -5,12 +5,12 @@ ghost use Rattle.std.specs.Prelude.{◌≡◌, ◌<◌, map, IfOk, OnOk};
 ghost use Rattle.std.specs.List.{AllPairs};
 ghost use Rattle.std.specs.List.Sorted.{IsNonDecreasing, IsPermutation};
 ghost use Rattle.pz_rules.specs.View.{term_view};
-ghost use Rattle.pz_tree_nodes.specs.Dropping.{numbers};
+ghost use Rattle.pz_tree_regrowing.specs.pz_tree_nodes.Dropping.{numbers};
 ghost use Rattle.pz_tree_acting.specs.devices.Closing.{HasListed, AlsoLists, OnlyListed, LostRule, ListedRule, CloseRule};
 
+use pz_rules::pz_state::{FrameId, State};
 use pz_rules::{Edition, Term};
-use pz_state::{FrameId, State};
-use pz_term_residual::{close_others, close_those, list_frames};
+use pz_term_frames::{close_others, close_those, list_frames};
 use std::alloc::{AllocError, Global};
 
 // The numbers of frames.

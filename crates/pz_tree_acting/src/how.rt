@@ -1,4 +1,4 @@
-use pz_copy::Parcel;
+use pz_rules::pz_copy::Parcel;
 
 /// How a part acts.
 #[derive(Clone, Copy)]

@@ -9,3 +9,4 @@ mod parts;
 
 pub use acting::{act, trial};
 pub use how::How;
+pub use pz_tree_regrowing;

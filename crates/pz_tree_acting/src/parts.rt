@@ -4,12 +4,12 @@ ghost use Rattle.std.specs.Prelude.{◌≡◌, ◌≤◌, ◌+◌, IfOk};
 ghost use Rattle.pz_nodes.specs.Arena.{find};
 ghost use Rattle.pz_nodes_shapes.specs.Seen.{seen};
 ghost use Rattle.pz_rules.specs.View.{term_view};
-ghost use Rattle.pz_tree_nodes.specs.View.{head_view, what_view};
+ghost use Rattle.pz_tree_regrowing.specs.pz_tree_nodes.View.{head_view, what_view};
 ghost use Rattle.pz_tree_acting.specs.devices.Parts.{PartRule, HeadRule};
 
 use pz_nodes::{Nodes, Steps};
 use pz_rules::Term;
-use pz_tree_nodes::{Head, Node, Spot};
+use pz_tree_regrowing::pz_tree_nodes::{Head, Node, Spot};
 use std::alloc::AllocError;
 use std::sync::ledger::Ledger;
 

@@ -1,34 +1,34 @@
 -- What becomes of a node in which something wakes, form by form.
 use Rattle.std.proofs.Common.{◌≡◌, ◌+◌, ◌||◌, ℕ, zero, suc, Bool, true, false, List, None, Result, Ok, Err, refl, ap, sym, ◌∙◌, subst, inl, inr}
 use Rattle.std.specs.Prelude.{map}
-use Rattle.pz_syntax.specs.declared.tokens.Pos.{Pos}
-use Rattle.pz_syntax.specs.Statements as statement
+use Rattle.pz_classes_code.specs.pz_syntax.declared.tokens.Pos.{Pos}
+use Rattle.pz_classes_code.specs.pz_syntax.Statements as statement
 use Rattle.pz_clock.specs.Shifts.{ShiftView, is_running}
-use Rattle.pz_eval_rules.specs.Clocks.{names_clock}
+use Rattle.pz_tree_refreshing.specs.pz_eval_rules.Clocks.{names_clock}
 use Rattle.pz_nodes_shapes.proofs.Frames.{decided, not_both}
-use Rattle.pz_offer.specs.declared.summary.Summary.{Summary}
-use Rattle.pz_offer.specs.declared.trouble.Trouble.{Trouble}
-use Rattle.pz_offer.specs.Summaries.{nothing}
-use Rattle.pz_rules.specs.Settings.{Context}
-use Rattle.pz_rules.specs.Terms.{Code, Step, Terms, no_terms, term_at}
-use Rattle.pz_rules.specs.devices.Found.{tested}
-use Rattle.pz_rules.specs.devices.Passing.{begun}
-use Rattle.pz_rules.specs.devices.Walk.{ActivePart, under, behind, active_parts}
-use Rattle.pz_tree_standing.specs.Steady.{later}
-use Rattle.pz_tree_standing.specs.Summaries.{summary_of, gated}
-use Rattle.pz_tree_standing.specs.Woken.{any_part, begins, is_clocked}
-use Rattle.pz_tree_standing.specs.devices.SummaryLaws.{TestIsSteady}
-use Rattle.pz_tree_standing.proofs.Tallies.{summary_guarded}
-use Rattle.pz_tree_standing.specs.Heads.{Head, leaf, wait, sequence, parallel, select, guarded, frame, abort, idle, handling, shifted, inner_frame, formed}
-use Rattle.pz_tree_standing.specs.Reached.{reaches, is_true, GateRight}
-use Rattle.pz_tree_standing.specs.Calm.{HasBegun}
-use Rattle.pz_tree_standing.proofs.Still.{is_ok}
-use Rattle.pz_tree_nodes.specs.declared.kept.Kept.{Kept}
-use Rattle.pz_tree_nodes.specs.declared.node.Head as lying
-use Rattle.pz_tree_nodes.specs.declared.node.What.{What}
-use Rattle.pz_tree_nodes.specs.Keeping.{kept_none}
-use Rattle.pz_tree_nodes.specs.View.{head_view}
-use Rattle.pz_rules.specs.Short.{IsShort}
+use Rattle.pz_tree_refreshing.specs.pz_offer.declared.summary.Summary.{Summary}
+use Rattle.pz_tree_refreshing.specs.pz_offer.declared.trouble.Trouble.{Trouble}
+use Rattle.pz_tree_refreshing.specs.pz_offer.Summaries.{nothing}
+use Rattle.pz_tree_refreshing.specs.pz_rules.Settings.{Context}
+use Rattle.pz_tree_refreshing.specs.pz_rules.Terms.{Code, Step, Terms, no_terms, term_at}
+use Rattle.pz_tree_refreshing.specs.pz_rules.devices.Found.{tested}
+use Rattle.pz_tree_refreshing.specs.pz_rules.devices.Passing.{begun}
+use Rattle.pz_tree_refreshing.specs.pz_rules.devices.Walk.{ActivePart, under, behind, active_parts}
+use Rattle.pz_tree_refreshing.specs.pz_tree_standing.Steady.{later}
+use Rattle.pz_tree_refreshing.specs.pz_tree_standing.Summaries.{summary_of, gated}
+use Rattle.pz_tree_refreshing.specs.pz_tree_standing.Woken.{any_part, begins, is_clocked}
+use Rattle.pz_tree_refreshing.specs.pz_tree_standing.devices.SummaryLaws.{TestIsSteady}
+use Rattle.pz_tree_refreshing.proofs.pz_tree_standing_proofs.Tallies.{summary_guarded}
+use Rattle.pz_tree_refreshing.specs.pz_tree_standing.Heads.{Head, leaf, wait, sequence, parallel, select, guarded, frame, abort, idle, handling, shifted, inner_frame, formed}
+use Rattle.pz_tree_refreshing.specs.pz_tree_standing.Reached.{reaches, is_true, GateRight}
+use Rattle.pz_tree_refreshing.specs.pz_tree_standing.Calm.{HasBegun}
+use Rattle.pz_tree_refreshing.proofs.pz_tree_standing_proofs.Still.{is_ok}
+use Rattle.pz_tree_refreshing.specs.pz_tree_nodes.declared.kept.Kept.{Kept}
+use Rattle.pz_tree_refreshing.specs.pz_tree_nodes.declared.node.Head as lying
+use Rattle.pz_tree_refreshing.specs.pz_tree_nodes.declared.node.What.{What}
+use Rattle.pz_tree_refreshing.specs.pz_tree_nodes.Keeping.{kept_none}
+use Rattle.pz_tree_refreshing.specs.pz_tree_nodes.View.{head_view}
+use Rattle.pz_tree_refreshing.specs.pz_rules.Short.{IsShort}
 use Rattle.pz_tree_refreshing.specs.devices.Asked.{MayAsk, IsAsked, AskRule}
 use Rattle.pz_tree_refreshing.proofs.Gates.{plain_asked, guard_asked}
 use Rattle.pz_tree_refreshing.proofs.Sums.{IsPlain}

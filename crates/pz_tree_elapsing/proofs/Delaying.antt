@@ -1,30 +1,30 @@
 -- A delay that begins, one that goes on, and a statement that stays as it is.
 use Rattle.std.proofs.Common.{◌≡◌, ◌<◌, ◌≤◌, ◌+◌, ◌-◌, ◌^◌, ◌||◌, eqb, if◌then◌else◌, ℕ, zero, suc, Bool, true, false, Option, Some, None, Result, Ok, Err, refl, ap, sym, ◌∙◌, subst, arith}
 use Rattle.std.specs.Prelude.{option_map}
-use Rattle.pz_syntax.specs.declared.tokens.Pos.{Pos}
-use Rattle.pz_syntax.specs.Statements as statement
+use Rattle.pz_classes_code.specs.pz_syntax.declared.tokens.Pos.{Pos}
+use Rattle.pz_classes_code.specs.pz_syntax.Statements as statement
 use Rattle.pz_nodes_shapes.proofs.Frames.{not_both}
-use Rattle.pz_offer.specs.declared.summary.Summary.{Summary}
-use Rattle.pz_offer.specs.declared.trouble.Trouble.{Trouble}
-use Rattle.pz_offer.specs.Summaries.{nothing, join}
-use Rattle.pz_offer.proofs.Joins.{join_right}
-use Rattle.pz_offer.proofs.Joins.{join_left}
-use Rattle.pz_rules.specs.Settings.{Context}
-use Rattle.pz_rules.specs.Terms.{Code, Step, Terms}
-use Rattle.pz_rules.specs.Terms as term
-use Rattle.pz_rules.specs.devices.Found.{lasting}
-use Rattle.pz_rules.specs.devices.Passing.{begun}
-use Rattle.pz_rules.specs.devices.Walk.{expiry, answered, trouble_of}
-use Rattle.pz_tree_standing.specs.Steady.{later}
-use Rattle.pz_tree_standing.specs.Summaries.{summary_of}
-use Rattle.pz_tree_standing.specs.Woken.{starts, clocked}
-use Rattle.pz_tree_standing.specs.devices.Tallies.{one, own_summary}
-use Rattle.pz_tree_standing.proofs.Unasked.{alone}
-use Rattle.pz_tree_standing.specs.Heads.{Head, leaf, wait}
-use Rattle.pz_tree_standing.specs.Calm.{HasBegun}
-use Rattle.pz_tree_nodes.specs.declared.kept.Kept.{Kept}
-use Rattle.pz_tree_nodes.proofs.Wakings.{or_none}
-use Rattle.pz_tree_standing.specs.Soon.{IsSoon}
+use Rattle.pz_tree_refreshing.specs.pz_offer.declared.summary.Summary.{Summary}
+use Rattle.pz_tree_refreshing.specs.pz_offer.declared.trouble.Trouble.{Trouble}
+use Rattle.pz_tree_refreshing.specs.pz_offer.Summaries.{nothing, join}
+use Rattle.pz_tree_refreshing.proofs.pz_offer_proofs.Joins.{join_right}
+use Rattle.pz_tree_refreshing.proofs.pz_offer_proofs.Joins.{join_left}
+use Rattle.pz_tree_refreshing.specs.pz_rules.Settings.{Context}
+use Rattle.pz_tree_refreshing.specs.pz_rules.Terms.{Code, Step, Terms}
+use Rattle.pz_tree_refreshing.specs.pz_rules.Terms as term
+use Rattle.pz_tree_refreshing.specs.pz_rules.devices.Found.{lasting}
+use Rattle.pz_tree_refreshing.specs.pz_rules.devices.Passing.{begun}
+use Rattle.pz_tree_refreshing.specs.pz_rules.devices.Walk.{expiry, answered, trouble_of}
+use Rattle.pz_tree_refreshing.specs.pz_tree_standing.Steady.{later}
+use Rattle.pz_tree_refreshing.specs.pz_tree_standing.Summaries.{summary_of}
+use Rattle.pz_tree_refreshing.specs.pz_tree_standing.Woken.{starts, clocked}
+use Rattle.pz_tree_refreshing.specs.pz_tree_standing.devices.Tallies.{one, own_summary}
+use Rattle.pz_tree_refreshing.proofs.pz_tree_standing_proofs.Unasked.{alone}
+use Rattle.pz_tree_refreshing.specs.pz_tree_standing.Heads.{Head, leaf, wait}
+use Rattle.pz_tree_refreshing.specs.pz_tree_standing.Calm.{HasBegun}
+use Rattle.pz_tree_refreshing.specs.pz_tree_nodes.declared.kept.Kept.{Kept}
+use Rattle.pz_tree_refreshing.proofs.pz_tree_nodes_proofs.Wakings.{or_none}
+use Rattle.pz_tree_refreshing.specs.pz_tree_standing.Soon.{IsSoon}
 use Rattle.pz_tree_refreshing.specs.devices.Reached.{reached_sum}
 use Rattle.pz_tree_refreshing.proofs.Sums.{none_sum}
 use Rattle.pz_tree_elapsing.specs.Waking.{wakes, is_due}

@@ -1,20 +1,20 @@
 -- Time passes over the active children of a node: what the node stands for then.
 use Rattle.std.proofs.Common.{◌≡◌, ◌<◌, ◌+◌, ◌-◌, ℕ, zero, suc, Bool, true, false, Option, Some, None, Result, Ok, Err, refl, ap, sym, ◌∙◌, arith}
-use Rattle.pz_syntax.specs.Statements as statement
+use Rattle.pz_classes_code.specs.pz_syntax.Statements as statement
 use Rattle.pz_clock.specs.Shifts.{ShiftView, is_running, ShiftFits, FitsSince}
 use Rattle.pz_nodes_shapes.specs.Rose.{node, none, gone, more, width}
-use Rattle.pz_offer.specs.declared.trouble.Trouble.{Trouble}
-use Rattle.pz_rules.specs.Settings.{Context}
-use Rattle.pz_rules.specs.Terms.{Step, Term, done, Terms, no_terms, and, term_at}
-use Rattle.pz_rules.specs.Terms as term
-use Rattle.pz_rules.specs.devices.Found.{tested}
-use Rattle.pz_rules.specs.devices.Passing.{passed, passed_all, if_open}
-use Rattle.pz_tree_standing.specs.Heads.{Head, leaf, wait, sequence, parallel, select, guarded, frame, abort, idle, handling, shifted, Shapes, inner_clock, inner_frame, formed}
-use Rattle.pz_tree_standing.specs.Standing.{HeadFits}
-use Rattle.pz_tree_standing.specs.Reached.{reaches, is_true, GateRight}
-use Rattle.pz_tree_standing.specs.Whole.{OneInside, HasParts}
-use Rattle.pz_tree_standing.specs.Calm.{HasBegun}
-use Rattle.pz_tree_standing.proofs.Passing.{local_stands}
+use Rattle.pz_tree_refreshing.specs.pz_offer.declared.trouble.Trouble.{Trouble}
+use Rattle.pz_tree_refreshing.specs.pz_rules.Settings.{Context}
+use Rattle.pz_tree_refreshing.specs.pz_rules.Terms.{Step, Term, done, Terms, no_terms, and, term_at}
+use Rattle.pz_tree_refreshing.specs.pz_rules.Terms as term
+use Rattle.pz_tree_refreshing.specs.pz_rules.devices.Found.{tested}
+use Rattle.pz_tree_refreshing.specs.pz_rules.devices.Passing.{passed, passed_all, if_open}
+use Rattle.pz_tree_refreshing.specs.pz_tree_standing.Heads.{Head, leaf, wait, sequence, parallel, select, guarded, frame, abort, idle, handling, shifted, Shapes, inner_clock, inner_frame, formed}
+use Rattle.pz_tree_refreshing.specs.pz_tree_standing.Standing.{HeadFits}
+use Rattle.pz_tree_refreshing.specs.pz_tree_standing.Reached.{reaches, is_true, GateRight}
+use Rattle.pz_tree_refreshing.specs.pz_tree_standing.Whole.{OneInside, HasParts}
+use Rattle.pz_tree_refreshing.specs.pz_tree_standing.Calm.{HasBegun}
+use Rattle.pz_tree_refreshing.proofs.pz_tree_standing_proofs.Passing.{local_stands}
 use Rattle.pz_tree_elapsing.specs.devices.Wakes.{if_reached, passed_reached}
 
 -- ---------------------------------------------------------- what fits goes on to fit

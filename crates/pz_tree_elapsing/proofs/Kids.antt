@@ -1,38 +1,38 @@
 -- Time passes over the children of a node, one after another.
 use Rattle.std.proofs.Common.{◌≡◌, ◌≤◌, ◌+◌, ◌*◌, ◌||◌, ℕ, suc, Bool, true, false, List, [], ◌∷◌, length, drop, Option, Some, None, refl, ap, sym, ◌∙◌, subst, arith, inl, inr}
-use Rattle.pz_eval_rules.specs.Clocks.{DataIsTimeless}
+use Rattle.pz_tree_refreshing.specs.pz_eval_rules.Clocks.{DataIsTimeless}
 use Rattle.std.specs.Prelude.{IfSome}
 use Rattle.pz_nodes_shapes.specs.declared.node.Node.{Node}
 use Rattle.pz_nodes_shapes.specs.Rose.{node, none, gone, more, Map, root, roots, payload, has, has_any, Stands, StandAll}
 use Rattle.pz_nodes_shapes.specs.Reading.{depth}
 use Rattle.pz_nodes_shapes.proofs.Frames.{or_neither, unless, decided, not_both, stands_kept}
-use Rattle.pz_offer.specs.Summaries.{MayShift}
-use Rattle.pz_rules.specs.Settings.{Context}
-use Rattle.pz_rules.specs.Terms.{Term, done, no_terms, and}
-use Rattle.pz_rules.specs.devices.Passing.{passed}
-use Rattle.pz_tree_standing.specs.Asked.{asks}
-use Rattle.pz_tree_standing.specs.Steady.{later}
-use Rattle.pz_tree_standing.specs.Summaries.{summary_of}
-use Rattle.pz_tree_standing.specs.Heads.{Head, leaf, wait, sequence, parallel, select, guarded, frame, abort, idle, handling, shifted, inner_clock}
-use Rattle.pz_tree_standing.specs.Standing.{terms_of, HeadFits}
-use Rattle.pz_tree_standing.specs.Reached.{reaches, behind_inside}
-use Rattle.pz_tree_standing.specs.Right.{Right}
-use Rattle.pz_tree_standing.proofs.Passing.{clock_goes}
-use Rattle.pz_tree_nodes.specs.declared.kept.Kept.{Kept}
-use Rattle.pz_tree_nodes.specs.declared.node.What.{What}
-use Rattle.pz_tree_nodes.specs.Keeping.{HasFlags, kept_none, joined, kept_later}
-use Rattle.pz_tree_nodes.specs.View.{Plant, Plants, shape_of, shapes_of, term_in}
-use Rattle.pz_tree_nodes.specs.Tended.{Tended}
-use Rattle.pz_tree_nodes.specs.Fresh.{Flagged}
-use Rattle.pz_tree_nodes.proofs.Joins.{joined_associative, joined_none, none_joined}
-use Rattle.pz_tree_nodes.proofs.Wakings.{or_none}
+use Rattle.pz_tree_refreshing.specs.pz_offer.Summaries.{MayShift}
+use Rattle.pz_tree_refreshing.specs.pz_rules.Settings.{Context}
+use Rattle.pz_tree_refreshing.specs.pz_rules.Terms.{Term, done, no_terms, and}
+use Rattle.pz_tree_refreshing.specs.pz_rules.devices.Passing.{passed}
+use Rattle.pz_tree_refreshing.specs.pz_tree_standing.Asked.{asks}
+use Rattle.pz_tree_refreshing.specs.pz_tree_standing.Steady.{later}
+use Rattle.pz_tree_refreshing.specs.pz_tree_standing.Summaries.{summary_of}
+use Rattle.pz_tree_refreshing.specs.pz_tree_standing.Heads.{Head, leaf, wait, sequence, parallel, select, guarded, frame, abort, idle, handling, shifted, inner_clock}
+use Rattle.pz_tree_refreshing.specs.pz_tree_standing.Standing.{terms_of, HeadFits}
+use Rattle.pz_tree_refreshing.specs.pz_tree_standing.Reached.{reaches, behind_inside}
+use Rattle.pz_tree_refreshing.specs.pz_tree_standing.Right.{Right}
+use Rattle.pz_tree_refreshing.proofs.pz_tree_standing_proofs.Passing.{clock_goes}
+use Rattle.pz_tree_refreshing.specs.pz_tree_nodes.declared.kept.Kept.{Kept}
+use Rattle.pz_tree_refreshing.specs.pz_tree_nodes.declared.node.What.{What}
+use Rattle.pz_tree_refreshing.specs.pz_tree_nodes.Keeping.{HasFlags, kept_none, joined, kept_later}
+use Rattle.pz_tree_refreshing.specs.pz_tree_nodes.View.{Plant, Plants, shape_of, shapes_of, term_in}
+use Rattle.pz_tree_refreshing.specs.pz_tree_nodes.Tended.{Tended}
+use Rattle.pz_tree_refreshing.specs.pz_tree_nodes.Fresh.{Flagged}
+use Rattle.pz_tree_refreshing.proofs.pz_tree_nodes_proofs.Joins.{joined_associative, joined_none, none_joined}
+use Rattle.pz_tree_refreshing.proofs.pz_tree_nodes_proofs.Wakings.{or_none}
 use Rattle.pz_tree_refreshing.specs.Live.{live_below}
-use Rattle.pz_rules.specs.Short.{IsShort}
-use Rattle.pz_tree_standing.specs.Soon.{HasRoom, IsSoon}
+use Rattle.pz_tree_refreshing.specs.pz_rules.Short.{IsShort}
+use Rattle.pz_tree_refreshing.specs.pz_tree_standing.Soon.{HasRoom, IsSoon}
 use Rattle.pz_tree_refreshing.specs.Refreshing.{Timely, RefreshRule}
 use Rattle.pz_tree_refreshing.specs.devices.Reached.{added, reached_sum, Says}
 use Rattle.pz_tree_refreshing.specs.devices.Levels.{IsBare, IsLeft}
-use Rattle.pz_tree_standing.proofs.Soon.{clock_back, room_inside}
+use Rattle.pz_tree_refreshing.proofs.pz_tree_standing_proofs.Soon.{clock_back, room_inside}
 use Rattle.pz_tree_refreshing.proofs.Short.{may_shift}
 use Rattle.pz_tree_refreshing.proofs.Sums.{plus_added}
 use Rattle.pz_tree_refreshing.proofs.Kids.{says_more, says_gone, says_unreached, says_reached, still_stand, kid_is, rest_is, nothing_left}

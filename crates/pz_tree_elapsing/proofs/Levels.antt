@@ -1,46 +1,46 @@
 -- Time passes over a node: it is taken in hand, time passes over its active children, it becomes what it becomes, what
 -- has become active is refreshed, and it is put back.
 use Rattle.std.proofs.Common.{◌≡◌, ◌<◌, ◌≤◌, ◌+◌, ◌*◌, ◌||◌, ℕ, suc, eqb, if◌then◌else◌, true, false, List, Option, Some, None, refl, ap, sym, ◌∙◌, subst, arith, inl}
-use Rattle.pz_eval_rules.specs.Clocks.{DataIsTimeless}
-use Rattle.pz_eval_rules.specs.Laws.{SoundDataIsTimeless}
+use Rattle.pz_tree_refreshing.specs.pz_eval_rules.Clocks.{DataIsTimeless}
+use Rattle.pz_tree_refreshing.specs.pz_eval_rules.Laws.{SoundDataIsTimeless}
 use Rattle.pz_nodes_shapes.specs.declared.node.Node.{Node}
 use Rattle.pz_nodes_shapes.specs.Rose.{node, none, gone, more, Map, roots, width, payload, has, has_any, Stands}
 use Rattle.pz_nodes_shapes.specs.Change.{OnlyAt}
 use Rattle.pz_nodes_shapes.specs.Reading.{depth, depths}
 use Rattle.pz_nodes_shapes.proofs.Frames.{or_neither, not_both, other_than, below_stand}
-use Rattle.pz_offer.specs.Summaries.{join}
-use Rattle.pz_rules.specs.Settings.{Context}
-use Rattle.pz_rules.specs.Terms.{Terms, term_at, height}
-use Rattle.pz_rules.specs.devices.Computed.{PassingIsComputed}
-use Rattle.pz_rules.specs.devices.Passing.{passed}
-use Rattle.pz_rules.specs.Delays.{Passes}
-use Rattle.pz_tree_standing.specs.Steady.{later}
-use Rattle.pz_tree_standing.specs.Summaries.{summary_of}
-use Rattle.pz_tree_standing.specs.devices.SummaryLaws.{TestIsSteady}
-use Rattle.pz_tree_standing.proofs.Unasked.{unasked_is_steady}
-use Rattle.pz_tree_standing.specs.Heads.{Head, inner_clock, inner_frame, formed}
-use Rattle.pz_tree_standing.specs.Laws.{NoDeeperThanHigh}
-use Rattle.pz_tree_standing.specs.Standing.{terms_of, HeadFits, FitAll}
-use Rattle.pz_tree_standing.specs.Reached.{reaches, behind_inside}
-use Rattle.pz_tree_standing.specs.Resting.{RestAll}
-use Rattle.pz_tree_standing.specs.Right.{RightAll}
-use Rattle.pz_tree_standing.specs.Whole.{AreWhole}
-use Rattle.pz_tree_standing.specs.devices.Laws.{StillRightComputed, StillSoundComputed}
-use Rattle.pz_tree_nodes.specs.declared.kept.Kept.{Kept}
-use Rattle.pz_tree_nodes.specs.declared.node.Head as lying
-use Rattle.pz_tree_nodes.specs.declared.node.What.{What}
-use Rattle.pz_tree_nodes.specs.Keeping.{HasFlags, IsMarked, joined}
-use Rattle.pz_tree_nodes.specs.View.{Plant, Plants, head_view, shape_of, shapes_of, term_in}
-use Rattle.pz_tree_nodes.specs.Tended.{Tended, AreMarked}
-use Rattle.pz_tree_nodes.specs.Fresh.{AllFlagged}
-use Rattle.pz_tree_nodes.specs.Laws.{UnwokenAreCalm, UnwokenAreSteady}
-use Rattle.pz_tree_nodes.proofs.Marks.{marked_alike}
-use Rattle.pz_rules.specs.Short.{IsShort}
-use Rattle.pz_tree_standing.specs.Soon.{HasRoom, IsSoon}
+use Rattle.pz_tree_refreshing.specs.pz_offer.Summaries.{join}
+use Rattle.pz_tree_refreshing.specs.pz_rules.Settings.{Context}
+use Rattle.pz_tree_refreshing.specs.pz_rules.Terms.{Terms, term_at, height}
+use Rattle.pz_tree_refreshing.specs.pz_rules.devices.Computed.{PassingIsComputed}
+use Rattle.pz_tree_refreshing.specs.pz_rules.devices.Passing.{passed}
+use Rattle.pz_tree_refreshing.specs.pz_rules.Delays.{Passes}
+use Rattle.pz_tree_refreshing.specs.pz_tree_standing.Steady.{later}
+use Rattle.pz_tree_refreshing.specs.pz_tree_standing.Summaries.{summary_of}
+use Rattle.pz_tree_refreshing.specs.pz_tree_standing.devices.SummaryLaws.{TestIsSteady}
+use Rattle.pz_tree_refreshing.proofs.pz_tree_standing_proofs.Unasked.{unasked_is_steady}
+use Rattle.pz_tree_refreshing.specs.pz_tree_standing.Heads.{Head, inner_clock, inner_frame, formed}
+use Rattle.pz_tree_refreshing.specs.pz_tree_standing.Laws.{NoDeeperThanHigh}
+use Rattle.pz_tree_refreshing.specs.pz_tree_standing.Standing.{terms_of, HeadFits, FitAll}
+use Rattle.pz_tree_refreshing.specs.pz_tree_standing.Reached.{reaches, behind_inside}
+use Rattle.pz_tree_refreshing.specs.pz_tree_standing.Resting.{RestAll}
+use Rattle.pz_tree_refreshing.specs.pz_tree_standing.Right.{RightAll}
+use Rattle.pz_tree_refreshing.specs.pz_tree_standing.Whole.{AreWhole}
+use Rattle.pz_tree_refreshing.specs.pz_tree_standing.devices.Laws.{StillRightComputed, StillSoundComputed}
+use Rattle.pz_tree_refreshing.specs.pz_tree_nodes.declared.kept.Kept.{Kept}
+use Rattle.pz_tree_refreshing.specs.pz_tree_nodes.declared.node.Head as lying
+use Rattle.pz_tree_refreshing.specs.pz_tree_nodes.declared.node.What.{What}
+use Rattle.pz_tree_refreshing.specs.pz_tree_nodes.Keeping.{HasFlags, IsMarked, joined}
+use Rattle.pz_tree_refreshing.specs.pz_tree_nodes.View.{Plant, Plants, head_view, shape_of, shapes_of, term_in}
+use Rattle.pz_tree_refreshing.specs.pz_tree_nodes.Tended.{Tended, AreMarked}
+use Rattle.pz_tree_refreshing.specs.pz_tree_nodes.Fresh.{AllFlagged}
+use Rattle.pz_tree_refreshing.specs.pz_tree_nodes.Laws.{UnwokenAreCalm, UnwokenAreSteady}
+use Rattle.pz_tree_refreshing.proofs.pz_tree_nodes_proofs.Marks.{marked_alike}
+use Rattle.pz_tree_refreshing.specs.pz_rules.Short.{IsShort}
+use Rattle.pz_tree_refreshing.specs.pz_tree_standing.Soon.{HasRoom, IsSoon}
 use Rattle.pz_tree_refreshing.specs.Refreshing.{AllTimely}
 use Rattle.pz_tree_refreshing.specs.devices.Reached.{Says}
 use Rattle.pz_tree_refreshing.specs.devices.Levels.{IsPutBack, KidsTended}
-use Rattle.pz_tree_standing.proofs.Soon.{least_soon, clock_back}
+use Rattle.pz_tree_refreshing.proofs.pz_tree_standing_proofs.Soon.{least_soon, clock_back}
 use Rattle.pz_tree_refreshing.proofs.Levels.{kids_whole, kids_fit, kids_rest, kids_marked, some_is_none, same_node, what_in, keys_in, absent, kept_top, high_top, as_deep}
 use Rattle.pz_tree_elapsing.specs.Waking.{wakes, woken_below, woken_among}
 use Rattle.pz_tree_elapsing.specs.Elapsing.{MayElapse, HasElapsed, ElapseRule}

@@ -1,21 +1,21 @@
 -- What a passing of time does not change of a term, and what is asked nothing.
 use Rattle.std.proofs.Common.{◌≡◌, ◌||◌, ℕ, suc, max, Bool, true, false, Result, Ok, Err, refl, ap, sym, ◌∙◌}
-use Rattle.pz_syntax.specs.Statements as statement
-use Rattle.pz_offer.specs.declared.trouble.Trouble.{Trouble}
-use Rattle.pz_rules.specs.Settings.{Context}
-use Rattle.pz_rules.specs.Terms.{Code, Step, Term, done, leaf, wait, sequence, parallel, select, guarded, frame, abort, idle, handling, Terms, no_terms, and, height, greatest_height}
-use Rattle.pz_rules.specs.devices.Found.{tested, lasting}
-use Rattle.pz_rules.specs.devices.Passing.{passed, passed_all, if_open, begun}
-use Rattle.pz_rules.specs.devices.Walk.{active_parts}
-use Rattle.pz_syntax.specs.declared.tokens.Pos.{Pos}
-use Rattle.pz_tree_standing.specs.Asked.{asks, any_asks, statement_asks}
-use Rattle.pz_tree_standing.specs.Woken.{any_part, begins, is_clocked}
-use Rattle.pz_tree_standing.proofs.Unasked.{or_neither}
-use Rattle.pz_tree_standing.specs.Heads.{Head, formed}
-use Rattle.pz_tree_standing.specs.Heads as head
-use Rattle.pz_tree_nodes.specs.declared.kept.Kept.{Kept}
-use Rattle.pz_tree_nodes.specs.Keeping.{HasFlags, any_term}
-use Rattle.pz_tree_nodes.proofs.Wakings.{or_none, in_under, in_two, in_children}
+use Rattle.pz_classes_code.specs.pz_syntax.Statements as statement
+use Rattle.pz_tree_refreshing.specs.pz_offer.declared.trouble.Trouble.{Trouble}
+use Rattle.pz_tree_refreshing.specs.pz_rules.Settings.{Context}
+use Rattle.pz_tree_refreshing.specs.pz_rules.Terms.{Code, Step, Term, done, leaf, wait, sequence, parallel, select, guarded, frame, abort, idle, handling, Terms, no_terms, and, height, greatest_height}
+use Rattle.pz_tree_refreshing.specs.pz_rules.devices.Found.{tested, lasting}
+use Rattle.pz_tree_refreshing.specs.pz_rules.devices.Passing.{passed, passed_all, if_open, begun}
+use Rattle.pz_tree_refreshing.specs.pz_rules.devices.Walk.{active_parts}
+use Rattle.pz_classes_code.specs.pz_syntax.declared.tokens.Pos.{Pos}
+use Rattle.pz_tree_refreshing.specs.pz_tree_standing.Asked.{asks, any_asks, statement_asks}
+use Rattle.pz_tree_refreshing.specs.pz_tree_standing.Woken.{any_part, begins, is_clocked}
+use Rattle.pz_tree_refreshing.proofs.pz_tree_standing_proofs.Unasked.{or_neither}
+use Rattle.pz_tree_refreshing.specs.pz_tree_standing.Heads.{Head, formed}
+use Rattle.pz_tree_refreshing.specs.pz_tree_standing.Heads as head
+use Rattle.pz_tree_refreshing.specs.pz_tree_nodes.declared.kept.Kept.{Kept}
+use Rattle.pz_tree_refreshing.specs.pz_tree_nodes.Keeping.{HasFlags, any_term}
+use Rattle.pz_tree_refreshing.proofs.pz_tree_nodes_proofs.Wakings.{or_none, in_under, in_two, in_children}
 use Rattle.pz_tree_refreshing.specs.devices.Reached.{reached_sum}
 use Rattle.pz_tree_refreshing.proofs.Sums.{IsPlain, none_sum, plain_sum}
 use Rattle.pz_tree_elapsing.specs.devices.Wakes.{own_asks}

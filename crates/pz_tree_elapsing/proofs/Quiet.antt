@@ -3,20 +3,20 @@ use Rattle.std.proofs.Common.{◌≡◌, ◌+◌, ℕ, zero, suc, Bool, true, fa
 use Rattle.std.specs.Prelude.{option_map}
 use Rattle.std.specs.Option.{option_or}
 use Rattle.pz_clock.specs.Shifts.{is_running}
-use Rattle.pz_offer.specs.declared.summary.Summary.{Summary}
-use Rattle.pz_offer.specs.declared.trouble.Trouble.{Trouble}
-use Rattle.pz_offer.specs.Summaries.{nothing, least, join, shifted}
-use Rattle.pz_rules.specs.Settings.{Context}
-use Rattle.pz_rules.specs.Terms.{Term, done, Terms, no_terms, and, term_at}
-use Rattle.pz_rules.specs.devices.Found.{tested}
-use Rattle.pz_tree_standing.specs.Summaries.{summary_of, gated}
-use Rattle.pz_tree_standing.proofs.Tallies.{summary_guarded}
-use Rattle.pz_tree_standing.specs.Heads.{Head, inner_frame, formed}
-use Rattle.pz_tree_standing.specs.Heads as head
-use Rattle.pz_tree_standing.specs.Reached.{reaches, GateRight}
-use Rattle.pz_tree_standing.proofs.Still.{is_ok}
+use Rattle.pz_tree_refreshing.specs.pz_offer.declared.summary.Summary.{Summary}
+use Rattle.pz_tree_refreshing.specs.pz_offer.declared.trouble.Trouble.{Trouble}
+use Rattle.pz_tree_refreshing.specs.pz_offer.Summaries.{nothing, least, join, shifted}
+use Rattle.pz_tree_refreshing.specs.pz_rules.Settings.{Context}
+use Rattle.pz_tree_refreshing.specs.pz_rules.Terms.{Term, done, Terms, no_terms, and, term_at}
+use Rattle.pz_tree_refreshing.specs.pz_rules.devices.Found.{tested}
+use Rattle.pz_tree_refreshing.specs.pz_tree_standing.Summaries.{summary_of, gated}
+use Rattle.pz_tree_refreshing.proofs.pz_tree_standing_proofs.Tallies.{summary_guarded}
+use Rattle.pz_tree_refreshing.specs.pz_tree_standing.Heads.{Head, inner_frame, formed}
+use Rattle.pz_tree_refreshing.specs.pz_tree_standing.Heads as head
+use Rattle.pz_tree_refreshing.specs.pz_tree_standing.Reached.{reaches, GateRight}
+use Rattle.pz_tree_refreshing.proofs.pz_tree_standing_proofs.Still.{is_ok}
 use Rattle.pz_tree_refreshing.specs.devices.Reached.{added, reached_sum}
-use Rattle.pz_tree_standing.proofs.Soon.{here_later}
+use Rattle.pz_tree_refreshing.proofs.pz_tree_standing_proofs.Soon.{here_later}
 use Rattle.pz_tree_refreshing.proofs.Sums.{IsPlain, plain_summary}
 use Rattle.pz_tree_elapsing.specs.Elapsing.{IsNotBefore}
 

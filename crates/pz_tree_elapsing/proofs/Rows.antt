@@ -1,19 +1,19 @@
 -- Worked nodes: in how many of them something wakes, and what a passing leaves, which the checker works out.
 use Rattle.std.proofs.Common.{◌≡◌, ℕ, true, Option, Some, None, refl}
-use Rattle.pz_syntax.specs.declared.tokens.Pos.{Pos}
+use Rattle.pz_classes_code.specs.pz_syntax.declared.tokens.Pos.{Pos}
 use Rattle.pz_classes_code.specs.declared.code.Code.{Code}
 use Rattle.pz_classes_code.specs.declared.step.Step.{Step}
 use Rattle.pz_classes_code.specs.StepView.{view}
 use Rattle.pz_clock.specs.Shifts.{ShiftView}
 use Rattle.pz_nodes_shapes.specs.Rose.{node, none, gone, more}
-use Rattle.pz_offer.specs.Summaries.{nothing}
-use Rattle.pz_rules.specs.Settings.{Context}
-use Rattle.pz_rules.specs.Terms.{wait, handling}
-use Rattle.pz_rules.specs.devices.Passing.{passed}
-use Rattle.pz_tree_nodes.specs.declared.kept.Kept.{Kept}
-use Rattle.pz_tree_nodes.specs.declared.node.Head.TheVariants as kind
-use Rattle.pz_tree_nodes.specs.Keeping.{kept_done, kept_asked, raised, joined}
-use Rattle.pz_tree_nodes.specs.View.{Plant, term_in}
+use Rattle.pz_tree_refreshing.specs.pz_offer.Summaries.{nothing}
+use Rattle.pz_tree_refreshing.specs.pz_rules.Settings.{Context}
+use Rattle.pz_tree_refreshing.specs.pz_rules.Terms.{wait, handling}
+use Rattle.pz_tree_refreshing.specs.pz_rules.devices.Passing.{passed}
+use Rattle.pz_tree_refreshing.specs.pz_tree_nodes.declared.kept.Kept.{Kept}
+use Rattle.pz_tree_refreshing.specs.pz_tree_nodes.declared.node.Head.TheVariants as kind
+use Rattle.pz_tree_refreshing.specs.pz_tree_nodes.Keeping.{kept_done, kept_asked, raised, joined}
+use Rattle.pz_tree_refreshing.specs.pz_tree_nodes.View.{Plant, term_in}
 use Rattle.pz_tree_elapsing.specs.Waking.{woken_nodes}
 
 -- what is due at this moment

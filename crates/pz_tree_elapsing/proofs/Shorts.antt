@@ -1,26 +1,26 @@
 -- Delays are short, before and after.
 use Rattle.std.proofs.Common.{◌≡◌, ◌<◌, ℕ, zero, suc, Bool, true, false, List, Result, Ok, Err, refl, sym, subst, arith}
-use Rattle.pz_syntax.specs.Statements as statement
+use Rattle.pz_classes_code.specs.pz_syntax.Statements as statement
 use Rattle.pz_nodes_shapes.specs.Rose.{node, none, gone, more, width}
-use Rattle.pz_offer.specs.declared.summary.Summary.{Summary}
-use Rattle.pz_offer.specs.declared.trouble.Trouble.{Trouble}
-use Rattle.pz_offer.specs.Summaries.{join}
-use Rattle.pz_rules.specs.Settings.{Context}
-use Rattle.pz_rules.specs.Terms.{Step, Term, done, leaf, wait, sequence, parallel, select, guarded, frame, abort, idle, handling, Terms, no_terms, and, term_at}
-use Rattle.pz_rules.specs.devices.Found.{tested}
-use Rattle.pz_rules.specs.devices.Walk.{ActivePart, under, behind, active_parts, active_children}
+use Rattle.pz_tree_refreshing.specs.pz_offer.declared.summary.Summary.{Summary}
+use Rattle.pz_tree_refreshing.specs.pz_offer.declared.trouble.Trouble.{Trouble}
+use Rattle.pz_tree_refreshing.specs.pz_offer.Summaries.{join}
+use Rattle.pz_tree_refreshing.specs.pz_rules.Settings.{Context}
+use Rattle.pz_tree_refreshing.specs.pz_rules.Terms.{Step, Term, done, leaf, wait, sequence, parallel, select, guarded, frame, abort, idle, handling, Terms, no_terms, and, term_at}
+use Rattle.pz_tree_refreshing.specs.pz_rules.devices.Found.{tested}
+use Rattle.pz_tree_refreshing.specs.pz_rules.devices.Walk.{ActivePart, under, behind, active_parts, active_children}
 use Rattle.std.specs.Prelude.{map}
-use Rattle.pz_tree_standing.specs.Summaries.{summary_of, summaries_of, gated}
-use Rattle.pz_tree_standing.specs.Woken.{any_part, begins, statement_begins, starts}
-use Rattle.pz_tree_standing.proofs.Tallies.{summary_sequence, summary_parallel, summary_select, summary_guarded, summary_frame, summary_abort, summary_idle, summary_handling}
-use Rattle.pz_tree_standing.proofs.Unasked.{or_neither}
-use Rattle.pz_tree_standing.proofs.Woken.{neither_part, none_under}
-use Rattle.pz_tree_standing.specs.Heads.{Head, Shapes, formed}
-use Rattle.pz_tree_standing.specs.Heads as head
-use Rattle.pz_tree_standing.specs.Whole.{OneInside, HasParts}
-use Rattle.pz_rules.specs.Short.{IsShort, AreShort}
-use Rattle.pz_tree_standing.specs.Soon.{IsSoon}
-use Rattle.pz_tree_standing.proofs.Soon.{least_soon}
+use Rattle.pz_tree_refreshing.specs.pz_tree_standing.Summaries.{summary_of, summaries_of, gated}
+use Rattle.pz_tree_refreshing.specs.pz_tree_standing.Woken.{any_part, begins, statement_begins, starts}
+use Rattle.pz_tree_refreshing.proofs.pz_tree_standing_proofs.Tallies.{summary_sequence, summary_parallel, summary_select, summary_guarded, summary_frame, summary_abort, summary_idle, summary_handling}
+use Rattle.pz_tree_refreshing.proofs.pz_tree_standing_proofs.Unasked.{or_neither}
+use Rattle.pz_tree_refreshing.proofs.pz_tree_standing_proofs.Woken.{neither_part, none_under}
+use Rattle.pz_tree_refreshing.specs.pz_tree_standing.Heads.{Head, Shapes, formed}
+use Rattle.pz_tree_refreshing.specs.pz_tree_standing.Heads as head
+use Rattle.pz_tree_refreshing.specs.pz_tree_standing.Whole.{OneInside, HasParts}
+use Rattle.pz_tree_refreshing.specs.pz_rules.Short.{IsShort, AreShort}
+use Rattle.pz_tree_refreshing.specs.pz_tree_standing.Soon.{IsSoon}
+use Rattle.pz_tree_refreshing.proofs.pz_tree_standing_proofs.Soon.{least_soon}
 use Rattle.pz_tree_elapsing.proofs.Goings.{IsNoWait}
 
 -- ---------------------------------------------------------- where no active delay has still to begin

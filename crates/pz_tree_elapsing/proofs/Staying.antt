@@ -1,39 +1,39 @@
 -- Nodes in which nothing wakes: they stay as they are, and are right.
 use Rattle.std.proofs.Common.{◌≡◌, ◌+◌, ◌||◌, eqb, ℕ, suc, Bool, true, false, Option, Some, None, Result, Ok, Err, refl, ap, sym, ◌∙◌, subst, arith}
 use Rattle.std.specs.Prelude.{map}
-use Rattle.pz_syntax.specs.Statements as statement
-use Rattle.pz_eval_rules.specs.Clocks.{DataIsTimeless}
+use Rattle.pz_classes_code.specs.pz_syntax.Statements as statement
+use Rattle.pz_tree_refreshing.specs.pz_eval_rules.Clocks.{DataIsTimeless}
 use Rattle.pz_nodes_shapes.specs.Rose.{node, none, gone, more, Map, payload, Stands}
 use Rattle.pz_nodes_shapes.proofs.Frames.{not_both}
-use Rattle.pz_offer.specs.declared.summary.Summary.{Summary}
-use Rattle.pz_offer.specs.declared.trouble.Trouble.{Trouble}
-use Rattle.pz_rules.specs.Settings.{Context}
-use Rattle.pz_rules.specs.Terms.{Step, Term, done, leaf, wait, sequence, parallel, select, guarded, frame, abort, idle, handling, Terms, no_terms, and, term_at}
-use Rattle.pz_rules.specs.devices.Found.{tested}
-use Rattle.pz_rules.specs.devices.Passing.{passed, passed_all, if_open}
-use Rattle.pz_rules.specs.devices.Walk.{under, behind, active_parts}
-use Rattle.pz_tree_standing.specs.Steady.{later, StatementIsSteady, Steady, AreSteady}
-use Rattle.pz_tree_standing.specs.Summaries.{summary_of}
-use Rattle.pz_tree_standing.specs.Woken.{any_part, begins, is_clocked, IsAfter}
-use Rattle.pz_tree_standing.specs.devices.SummaryLaws.{TestIsSteady}
-use Rattle.pz_tree_standing.proofs.Unasked.{or_neither}
-use Rattle.pz_tree_standing.specs.Heads.{Head, inner_clock, inner_frame}
-use Rattle.pz_tree_standing.specs.Standing.{terms_of, HeadFits, Fits, FitAll}
-use Rattle.pz_tree_standing.specs.Reached.{reaches}
-use Rattle.pz_tree_standing.specs.Right.{Right}
-use Rattle.pz_tree_standing.specs.Calm.{Calm, CalmAll}
-use Rattle.pz_tree_standing.specs.devices.Laws.{StillRightComputed, StillSoundComputed}
-use Rattle.pz_tree_standing.proofs.Passing.{clock_goes, time_passes}
-use Rattle.pz_tree_standing.proofs.Still.{kid_steady}
-use Rattle.pz_tree_nodes.specs.declared.kept.Kept.{Kept}
-use Rattle.pz_tree_nodes.specs.declared.node.What.{What}
-use Rattle.pz_tree_nodes.specs.Keeping.{HasFlags, any_term}
-use Rattle.pz_tree_nodes.specs.View.{Plant, Plants, head_view, shape_of, shapes_of, term_in}
-use Rattle.pz_tree_nodes.specs.Fresh.{Flagged, AllFlagged}
-use Rattle.pz_tree_nodes.specs.Laws.{UnwokenAreCalm, UnwokenAreSteady}
-use Rattle.pz_tree_nodes.proofs.Wakings.{in_under, in_two, in_children}
-use Rattle.pz_rules.specs.Short.{IsShort, AreShort}
-use Rattle.pz_tree_standing.specs.Soon.{IsSoon}
+use Rattle.pz_tree_refreshing.specs.pz_offer.declared.summary.Summary.{Summary}
+use Rattle.pz_tree_refreshing.specs.pz_offer.declared.trouble.Trouble.{Trouble}
+use Rattle.pz_tree_refreshing.specs.pz_rules.Settings.{Context}
+use Rattle.pz_tree_refreshing.specs.pz_rules.Terms.{Step, Term, done, leaf, wait, sequence, parallel, select, guarded, frame, abort, idle, handling, Terms, no_terms, and, term_at}
+use Rattle.pz_tree_refreshing.specs.pz_rules.devices.Found.{tested}
+use Rattle.pz_tree_refreshing.specs.pz_rules.devices.Passing.{passed, passed_all, if_open}
+use Rattle.pz_tree_refreshing.specs.pz_rules.devices.Walk.{under, behind, active_parts}
+use Rattle.pz_tree_refreshing.specs.pz_tree_standing.Steady.{later, StatementIsSteady, Steady, AreSteady}
+use Rattle.pz_tree_refreshing.specs.pz_tree_standing.Summaries.{summary_of}
+use Rattle.pz_tree_refreshing.specs.pz_tree_standing.Woken.{any_part, begins, is_clocked, IsAfter}
+use Rattle.pz_tree_refreshing.specs.pz_tree_standing.devices.SummaryLaws.{TestIsSteady}
+use Rattle.pz_tree_refreshing.proofs.pz_tree_standing_proofs.Unasked.{or_neither}
+use Rattle.pz_tree_refreshing.specs.pz_tree_standing.Heads.{Head, inner_clock, inner_frame}
+use Rattle.pz_tree_refreshing.specs.pz_tree_standing.Standing.{terms_of, HeadFits, Fits, FitAll}
+use Rattle.pz_tree_refreshing.specs.pz_tree_standing.Reached.{reaches}
+use Rattle.pz_tree_refreshing.specs.pz_tree_standing.Right.{Right}
+use Rattle.pz_tree_refreshing.specs.pz_tree_standing.Calm.{Calm, CalmAll}
+use Rattle.pz_tree_refreshing.specs.pz_tree_standing.devices.Laws.{StillRightComputed, StillSoundComputed}
+use Rattle.pz_tree_refreshing.proofs.pz_tree_standing_proofs.Passing.{clock_goes, time_passes}
+use Rattle.pz_tree_refreshing.proofs.pz_tree_standing_proofs.Still.{kid_steady}
+use Rattle.pz_tree_refreshing.specs.pz_tree_nodes.declared.kept.Kept.{Kept}
+use Rattle.pz_tree_refreshing.specs.pz_tree_nodes.declared.node.What.{What}
+use Rattle.pz_tree_refreshing.specs.pz_tree_nodes.Keeping.{HasFlags, any_term}
+use Rattle.pz_tree_refreshing.specs.pz_tree_nodes.View.{Plant, Plants, head_view, shape_of, shapes_of, term_in}
+use Rattle.pz_tree_refreshing.specs.pz_tree_nodes.Fresh.{Flagged, AllFlagged}
+use Rattle.pz_tree_refreshing.specs.pz_tree_nodes.Laws.{UnwokenAreCalm, UnwokenAreSteady}
+use Rattle.pz_tree_refreshing.proofs.pz_tree_nodes_proofs.Wakings.{in_under, in_two, in_children}
+use Rattle.pz_tree_refreshing.specs.pz_rules.Short.{IsShort, AreShort}
+use Rattle.pz_tree_refreshing.specs.pz_tree_standing.Soon.{IsSoon}
 use Rattle.pz_tree_refreshing.specs.Refreshing.{Timely, AllTimely}
 use Rattle.pz_tree_elapsing.specs.Waking.{wakes, is_due}
 use Rattle.pz_tree_elapsing.specs.Elapsing.{MayElapse, IsNotBefore}

@@ -2,32 +2,32 @@
 use Rattle.std.proofs.Common.{◌≡◌, ◌≤◌, ◌+◌, ◌*◌, ◌||◌, ℕ, suc, Bool, true, false, List, ◌∷◌, Option, Some, refl, ap, sym, ◌∙◌, subst, arith}
 use Rattle.pz_nodes_shapes.specs.Rose.{node, none, gone, more, Map, root, roots, kids, payload, has, has_any, Stands, StandAll}
 use Rattle.pz_nodes_shapes.proofs.Frames.{or_neither, unless, not_both}
-use Rattle.pz_offer.specs.Summaries.{nothing, join}
-use Rattle.pz_rules.specs.Settings.{Context}
-use Rattle.pz_rules.specs.Terms.{Term, Terms, no_terms, and}
-use Rattle.pz_tree_standing.specs.Asked.{asks}
-use Rattle.pz_tree_standing.specs.Steady.{later}
-use Rattle.pz_tree_standing.specs.Summaries.{summary_of}
-use Rattle.pz_tree_standing.specs.Woken.{starts, clocked}
-use Rattle.pz_tree_standing.specs.Heads.{Head, leaf, wait, sequence, parallel, select, guarded, frame, abort, idle, handling, shifted, Shapes, inner_clock}
-use Rattle.pz_tree_standing.specs.Standing.{terms_of, HeadFits}
-use Rattle.pz_tree_standing.specs.Reached.{reaches, behind_inside}
-use Rattle.pz_tree_standing.specs.Right.{Right, RightAll}
-use Rattle.pz_tree_standing.specs.Whole.{HasParts}
-use Rattle.pz_tree_nodes.specs.declared.kept.Kept.{Kept}
-use Rattle.pz_tree_nodes.specs.declared.node.What.{What}
-use Rattle.pz_tree_nodes.specs.Keeping.{kept_none, kept_later}
-use Rattle.pz_tree_nodes.specs.View.{Plant, Plants, shapes_of, term_in}
-use Rattle.pz_tree_nodes.specs.Tended.{Tended}
-use Rattle.pz_tree_nodes.specs.Fresh.{Flagged, AllFlagged}
-use Rattle.pz_tree_nodes.proofs.Joins.{joined_none}
+use Rattle.pz_tree_refreshing.specs.pz_offer.Summaries.{nothing, join}
+use Rattle.pz_tree_refreshing.specs.pz_rules.Settings.{Context}
+use Rattle.pz_tree_refreshing.specs.pz_rules.Terms.{Term, Terms, no_terms, and}
+use Rattle.pz_tree_refreshing.specs.pz_tree_standing.Asked.{asks}
+use Rattle.pz_tree_refreshing.specs.pz_tree_standing.Steady.{later}
+use Rattle.pz_tree_refreshing.specs.pz_tree_standing.Summaries.{summary_of}
+use Rattle.pz_tree_refreshing.specs.pz_tree_standing.Woken.{starts, clocked}
+use Rattle.pz_tree_refreshing.specs.pz_tree_standing.Heads.{Head, leaf, wait, sequence, parallel, select, guarded, frame, abort, idle, handling, shifted, Shapes, inner_clock}
+use Rattle.pz_tree_refreshing.specs.pz_tree_standing.Standing.{terms_of, HeadFits}
+use Rattle.pz_tree_refreshing.specs.pz_tree_standing.Reached.{reaches, behind_inside}
+use Rattle.pz_tree_refreshing.specs.pz_tree_standing.Right.{Right, RightAll}
+use Rattle.pz_tree_refreshing.specs.pz_tree_standing.Whole.{HasParts}
+use Rattle.pz_tree_refreshing.specs.pz_tree_nodes.declared.kept.Kept.{Kept}
+use Rattle.pz_tree_refreshing.specs.pz_tree_nodes.declared.node.What.{What}
+use Rattle.pz_tree_refreshing.specs.pz_tree_nodes.Keeping.{kept_none, kept_later}
+use Rattle.pz_tree_refreshing.specs.pz_tree_nodes.View.{Plant, Plants, shapes_of, term_in}
+use Rattle.pz_tree_refreshing.specs.pz_tree_nodes.Tended.{Tended}
+use Rattle.pz_tree_refreshing.specs.pz_tree_nodes.Fresh.{Flagged, AllFlagged}
+use Rattle.pz_tree_refreshing.proofs.pz_tree_nodes_proofs.Joins.{joined_none}
 use Rattle.pz_tree_refreshing.specs.Live.{live_below}
-use Rattle.pz_rules.specs.Short.{AreShort}
-use Rattle.pz_tree_standing.specs.Soon.{HasRoom}
+use Rattle.pz_tree_refreshing.specs.pz_rules.Short.{AreShort}
+use Rattle.pz_tree_refreshing.specs.pz_tree_standing.Soon.{HasRoom}
 use Rattle.pz_tree_refreshing.specs.Refreshing.{Timely, AllTimely, IsRefreshed}
 use Rattle.pz_tree_refreshing.specs.devices.Reached.{added, reached_sum, Says}
 use Rattle.pz_tree_refreshing.specs.devices.Levels.{IsLeft, KidsTended}
-use Rattle.pz_tree_standing.proofs.Soon.{clock_back, room_inside}
+use Rattle.pz_tree_refreshing.proofs.pz_tree_standing_proofs.Soon.{clock_back, room_inside}
 use Rattle.pz_tree_refreshing.proofs.Short.{may_shift}
 use Rattle.pz_tree_refreshing.proofs.Kids.{says_more, says_gone, says_reached, still_stand}
 use Rattle.pz_tree_refreshing.proofs.Levels.{same_terms, same_width, same_parts}

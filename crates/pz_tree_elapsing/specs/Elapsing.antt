@@ -1,19 +1,19 @@
 -- What becomes of nodes as time passes.
 use Rattle.std.specs.Prelude.{◌≡◌, ◌≤◌, ◌+◌, ◌*◌, ℕ, Option, Some, None}
-use Rattle.pz_classes.specs.Soundness.{IsSound}
+use Rattle.pz_tree_refreshing.specs.pz_classes_rules.Soundness.{IsSound}
 use Rattle.pz_nodes_shapes.specs.Rose.{Map, root, payload, has, Stands}
 use Rattle.pz_nodes_shapes.specs.Change.{Becomes}
-use Rattle.pz_rules.specs.Settings.{Context}
-use Rattle.pz_rules.specs.Delays.{Passes}
-use Rattle.pz_rules.specs.devices.Computed.{IsUntroubled}
-use Rattle.pz_rules.specs.devices.Passing.{passed}
-use Rattle.pz_tree_standing.specs.Steady.{later}
-use Rattle.pz_tree_nodes.specs.declared.node.What.{What}
-use Rattle.pz_tree_nodes.specs.View.{Plant, term_in}
-use Rattle.pz_tree_nodes.specs.Tended.{Tended}
-use Rattle.pz_tree_nodes.specs.Fresh.{Fresh}
-use Rattle.pz_rules.specs.Short.{IsShort}
-use Rattle.pz_tree_standing.specs.Soon.{HasRoom, IsSoon}
+use Rattle.pz_tree_refreshing.specs.pz_rules.Settings.{Context}
+use Rattle.pz_tree_refreshing.specs.pz_rules.Delays.{Passes}
+use Rattle.pz_tree_refreshing.specs.pz_rules.devices.Computed.{IsUntroubled}
+use Rattle.pz_tree_refreshing.specs.pz_rules.devices.Passing.{passed}
+use Rattle.pz_tree_refreshing.specs.pz_tree_standing.Steady.{later}
+use Rattle.pz_tree_refreshing.specs.pz_tree_nodes.declared.node.What.{What}
+use Rattle.pz_tree_refreshing.specs.pz_tree_nodes.View.{Plant, term_in}
+use Rattle.pz_tree_refreshing.specs.pz_tree_nodes.Tended.{Tended}
+use Rattle.pz_tree_refreshing.specs.pz_tree_nodes.Fresh.{Fresh}
+use Rattle.pz_tree_refreshing.specs.pz_rules.Short.{IsShort}
+use Rattle.pz_tree_refreshing.specs.pz_tree_standing.Soon.{HasRoom, IsSoon}
 use Rattle.pz_tree_refreshing.specs.Refreshing.{Timely}
 use Rattle.pz_tree_elapsing.specs.Waking.{woken_nodes}
 

@@ -2,10 +2,10 @@
 -- begins, and to a part that names the clock, if it is active; and the live nodes of what becomes active.
 use Rattle.std.specs.Prelude.{◌+◌, ◌||◌, eqb, if◌then◌else◌, ℕ, suc, Bool, true, false, Option, Some, None}
 use Rattle.pz_nodes_shapes.specs.Rose.{node, none, gone, more}
-use Rattle.pz_tree_standing.specs.Heads.{Head, inner_clock}
-use Rattle.pz_tree_standing.specs.Reached.{reaches}
-use Rattle.pz_tree_nodes.specs.declared.kept.Kept.{Kept}
-use Rattle.pz_tree_nodes.specs.View.{Plant, Plants, head_view}
+use Rattle.pz_tree_refreshing.specs.pz_tree_standing.Heads.{Head, inner_clock}
+use Rattle.pz_tree_refreshing.specs.pz_tree_standing.Reached.{reaches}
+use Rattle.pz_tree_refreshing.specs.pz_tree_nodes.declared.kept.Kept.{Kept}
+use Rattle.pz_tree_refreshing.specs.pz_tree_nodes.View.{Plant, Plants, head_view}
 use Rattle.pz_tree_refreshing.specs.Live.{live_below}
 
 abbrev pub is_due : ℕ → Option ℕ → Bool

@@ -1,13 +1,13 @@
 //! Time passes over nodes, along those in which something wakes.
 
 ghost use Rattle.std.specs.Prelude.{◌≡◌, ◌+◌, ◌*◌, ℕ, true, Some, None, IfSome, IfOk, OnOk};
-ghost use Rattle.pz_syntax.specs.Classes.{ModelTree};
-ghost use Rattle.pz_eval.specs.Known.{AreKnown};
+ghost use Rattle.pz_classes_code.specs.pz_syntax.Classes.{ModelTree};
+ghost use Rattle.pz_tree_refreshing.specs.pz_eval.Known.{AreKnown};
 ghost use Rattle.pz_nodes.specs.Arena.{find, Updates};
-ghost use Rattle.pz_part_queries.specs.Standpoints.{Knows, seen_from};
-ghost use Rattle.pz_rules.specs.Settings.{Context};
-ghost use Rattle.pz_tree_standing.specs.Heads.{inner_frame};
-ghost use Rattle.pz_tree_nodes.specs.View.{head_view};
+ghost use Rattle.pz_tree_refreshing.specs.pz_part_queries.Standpoints.{Knows, seen_from};
+ghost use Rattle.pz_tree_refreshing.specs.pz_rules.Settings.{Context};
+ghost use Rattle.pz_tree_refreshing.specs.pz_tree_standing.Heads.{inner_frame};
+ghost use Rattle.pz_tree_refreshing.specs.pz_tree_nodes.View.{head_view};
 ghost use Rattle.pz_tree_elapsing.specs.Elapsing.{ElapseRule};
 ghost use Rattle.pz_tree_elapsing.specs.devices.Levels as levels;
 ghost use Rattle.pz_tree_elapsing.specs.devices.Levels.{NodeRule, AtRule, KidRule, KidsRule, ReturnRule, TurnRule};
@@ -15,13 +15,15 @@ ghost use Rattle.pz_tree_elapsing.specs.devices.Levels.{NodeRule, AtRule, KidRul
 use crate::turning::{Turn, turn_of};
 use crate::waking::{asks, wake, wakes};
 use pz_nodes::{Key, Nodes, Steps};
-use pz_part_queries::Standpoint;
 use pz_state::State;
-use pz_tree_nodes::{
+use pz_tree_refreshing::pz_part_queries::Standpoint;
+use pz_tree_refreshing::pz_tree_nodes::pz_tree_standing::pz_rules;
+use pz_tree_refreshing::pz_tree_nodes::pz_tree_standing::pz_rules::pz_eval_rules;
+use pz_tree_refreshing::pz_tree_nodes::{
     Head, Kept, Node, What, behind_inside, clock_inside, frame_inside, fuel_for, hollow, later,
-    put_back, reaches,
+    put_back, pz_tree_standing, reaches,
 };
-use pz_tree_refreshing::{Spot, refresh};
+use pz_tree_refreshing::{Spot, pz_tree_nodes, refresh};
 use std::alloc::{AllocError, Global};
 use std::sync::ledger::Ledger;
 

@@ -6,3 +6,4 @@ mod turning;
 mod waking;
 
 pub use elapsing::{elapse, rests};
+pub use pz_tree_refreshing;

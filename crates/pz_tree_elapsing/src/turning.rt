@@ -1,10 +1,10 @@
 // Gates that open or shut as time passes.
 
 ghost use Rattle.std.specs.Prelude.{◌≡◌};
-ghost use Rattle.pz_tree_nodes.specs.View.{head_view};
+ghost use Rattle.pz_tree_refreshing.specs.pz_tree_nodes.View.{head_view};
 ghost use Rattle.pz_tree_elapsing.specs.devices.Wakes as device;
 
-use pz_tree_nodes::Head;
+use pz_tree_refreshing::pz_tree_nodes::Head;
 
 /// What became of the gate of a node.
 #[derive(Clone, Copy)]

@@ -1,26 +1,28 @@
 // What wakes in a node as time passes, and what becomes of it.
 
 ghost use Rattle.std.specs.Prelude.{◌≡◌, ◌||◌, ◌+◌, ℕ, false, IfOk};
-ghost use Rattle.pz_syntax.specs.Classes.{ModelTree};
+ghost use Rattle.pz_classes_code.specs.pz_syntax.Classes.{ModelTree};
 ghost use Rattle.pz_classes_code.specs.StepView.{view};
-ghost use Rattle.pz_eval.specs.Known.{AreKnown};
-ghost use Rattle.pz_part_queries.specs.Standpoints.{Knows, seen_from};
-ghost use Rattle.pz_rules.specs.Settings.{Context};
-ghost use Rattle.pz_tree_standing.specs.Asked as asked;
-ghost use Rattle.pz_tree_standing.specs.Steady.{later};
-ghost use Rattle.pz_tree_standing.specs.Heads as heads;
-ghost use Rattle.pz_tree_nodes.specs.Keeping.{kept_none};
-ghost use Rattle.pz_tree_nodes.specs.View.{head_view};
+ghost use Rattle.pz_tree_refreshing.specs.pz_eval.Known.{AreKnown};
+ghost use Rattle.pz_tree_refreshing.specs.pz_part_queries.Standpoints.{Knows, seen_from};
+ghost use Rattle.pz_tree_refreshing.specs.pz_rules.Settings.{Context};
+ghost use Rattle.pz_tree_refreshing.specs.pz_tree_standing.Asked as asked;
+ghost use Rattle.pz_tree_refreshing.specs.pz_tree_standing.Steady.{later};
+ghost use Rattle.pz_tree_refreshing.specs.pz_tree_standing.Heads as heads;
+ghost use Rattle.pz_tree_refreshing.specs.pz_tree_nodes.Keeping.{kept_none};
+ghost use Rattle.pz_tree_refreshing.specs.pz_tree_nodes.View.{head_view};
 ghost use Rattle.pz_tree_elapsing.specs.Waking as definition;
 ghost use Rattle.pz_tree_elapsing.specs.devices.Wakes as device;
 ghost use Rattle.pz_tree_elapsing.specs.devices.Wakes.{kept_of_wait, WakeRule};
 
+use pz_classes_code::pz_syntax::Pos;
 use pz_classes_code::{Step, StepForm};
 use pz_offer::Summary;
-use pz_part_queries::Standpoint;
 use pz_state::State;
-use pz_syntax::Pos;
-use pz_tree_nodes::{Head, Kept, What, names_clock, part_names_clock};
+use pz_tree_refreshing::pz_part_queries::Standpoint;
+use pz_tree_refreshing::pz_tree_nodes::{
+    Head, Kept, What, names_clock, part_names_clock, pz_tree_standing,
+};
 use pz_tree_refreshing::{Spot, ask};
 use std::alloc::{AllocError, Global};
 

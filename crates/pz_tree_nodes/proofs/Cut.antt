@@ -1,7 +1,7 @@
 -- What is noted of the active parts of a term, cut at its children.
 use Rattle.std.proofs.Common.{◌≡◌, ℕ, suc, Bool, true, false, cond, List, [], ◌∷◌, ◌++◌, map, Option, Some, None, Result, Ok, Err, refl, ap, sym, ◌∙◌, arith, append-nil}
 use Rattle.std.specs.List.{cons_option}
-use Rattle.pz_offer.specs.declared.trouble.Trouble.{Trouble}
+use Rattle.pz_rules.specs.pz_offer.declared.trouble.Trouble.{Trouble}
 use Rattle.pz_nodes_shapes.specs.Rose.{none, gone, more, width}
 use Rattle.pz_rules.specs.Terms.{Term, Terms, no_terms, and, count, term_at}
 use Rattle.pz_rules.specs.Settings.{Context}

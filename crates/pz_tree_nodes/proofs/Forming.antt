@@ -1,6 +1,6 @@
 -- The nodes that planting puts over its parts, form by form.
 use Rattle.std.proofs.Common.{◌≡◌, ℕ, zero, suc, ◌+◌, ◌-◌, List, refl, ap, arith}
-use Rattle.pz_syntax.specs.declared.tokens.Pos.{Pos}
+use Rattle.pz_classes_code.specs.pz_syntax.declared.tokens.Pos.{Pos}
 use Rattle.pz_classes_code.specs.declared.slot.Slot.{Slot}
 use Rattle.pz_clock.specs.Shifts.{new_shift, frozen}
 use Rattle.pz_rules.specs.Terms.{Code, Step, Steps, Term, Terms, no_terms, and}

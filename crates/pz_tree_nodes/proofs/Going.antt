@@ -1,8 +1,8 @@
 -- The way to the internal action of number k.
 use Rattle.std.proofs.Common.{◌≡◌, ◌≤◌, ◌+◌, ℕ, [], ◌∷◌, ◌++◌, Option, Some, None, refl, ap, sym, ◌∙◌, subst, arith, append_assoc, append-nil}
 use Rattle.std.specs.Prelude.{option_map, slice_get}
-use Rattle.pz_offer.specs.PlaceOrder.{Place}
-use Rattle.pz_state.specs.declared.state.FrameId.{FrameId}
+use Rattle.pz_rules.specs.pz_offer.PlaceOrder.{Place}
+use Rattle.pz_rules.specs.pz_state.declared.state.FrameId.{FrameId}
 use Rattle.pz_nodes_shapes.specs.Rose.{Map}
 use Rattle.pz_nodes_shapes.specs.Seen.{seen}
 use Rattle.pz_rules.specs.Laws.{part_of}

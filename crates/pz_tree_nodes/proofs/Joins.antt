@@ -1,6 +1,6 @@
 -- What is kept of parts side by side, however they are joined.
 use Rattle.std.proofs.Common.{◌≡◌, ℕ, max, arith}
-use Rattle.pz_offer.proofs.Joins.{join_associative, join_left, join_right}
+use Rattle.pz_rules.proofs.pz_offer_proofs.Joins.{join_associative, join_left, join_right}
 use Rattle.pz_tree_nodes.specs.declared.kept.Kept.{Kept}
 use Rattle.pz_tree_nodes.specs.Keeping.{kept_none, joined}
 use Rattle.pz_tree_nodes.proofs.Wakings.{or_associative, or_none}

@@ -1,9 +1,9 @@
 -- What is kept of each form, from what is kept of its parts.
 use Rattle.std.proofs.Common.{◌≡◌, ℕ, zero, suc, ◌+◌, max, eqb, if◌then◌else◌, ◌||◌, true, false, List, Some, refl, ap, sym, ◌∙◌, arith}
-use Rattle.pz_syntax.specs.declared.tokens.Pos.{Pos}
-use Rattle.pz_syntax.specs.Statements as statement
+use Rattle.pz_classes_code.specs.pz_syntax.declared.tokens.Pos.{Pos}
+use Rattle.pz_classes_code.specs.pz_syntax.Statements as statement
 use Rattle.pz_classes_code.specs.declared.slot.Slot.{Slot}
-use Rattle.pz_offer.specs.Summaries.{nothing, join}
+use Rattle.pz_rules.specs.pz_offer.Summaries.{nothing, join}
 use Rattle.pz_rules.specs.Terms.{Code, Step, Steps, Term, done, leaf, wait, sequence, parallel, select, guarded, frame, abort, idle, handling, Terms, no_terms, and, height}
 use Rattle.pz_rules.specs.Settings.{Context}
 use Rattle.pz_rules.specs.devices.Walk.{active_parts}

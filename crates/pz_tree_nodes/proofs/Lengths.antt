@@ -3,7 +3,7 @@ use Rattle.std.proofs.Common.{◌≡◌, ◌<◌, ◌+◌, ℕ, zero, suc, Bool,
 use Rattle.std.specs.Prelude.{option_map, slice_get, slice_index_or}
 use Rattle.std.proofs.lemmas.List.{length-map}
 use Rattle.std.proofs.lemmas.Option.{slice_get-map}
-use Rattle.pz_offer.specs.declared.summary.Summary.{Summary}
+use Rattle.pz_rules.specs.pz_offer.declared.summary.Summary.{Summary}
 use Rattle.pz_nodes_shapes.specs.Rose.{node, none, gone, more, Map, root, roots, Stands, StandAll}
 use Rattle.pz_rules.specs.Settings.{Context}
 use Rattle.pz_rules.specs.Terms.{Term, done, term_at}

@@ -22,3 +22,5 @@ pub mod Going
 pub mod Added
 pub mod Listed
 mod SeekingRows
+pub use Rattle.pz_tree_standing.proofs as pz_tree_standing_proofs
+pub use Rattle.pz_rules.proofs.pz_offer_proofs as pz_offer_proofs

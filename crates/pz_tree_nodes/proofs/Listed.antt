@@ -4,9 +4,9 @@ use Rattle.std.specs.Prelude.{option_map, slice_index_or}
 use Rattle.std.specs.List.{cons_option}
 use Rattle.pz_classes_code.specs.declared.step.Step.{Step}
 use Rattle.pz_classes_code.specs.StepView as step
-use Rattle.pz_offer.specs.PlaceOrder.{Place}
-use Rattle.pz_offer.specs.declared.summary.Summary.{Summary}
-use Rattle.pz_state.specs.declared.state.FrameId.{FrameId}
+use Rattle.pz_rules.specs.pz_offer.PlaceOrder.{Place}
+use Rattle.pz_rules.specs.pz_offer.declared.summary.Summary.{Summary}
+use Rattle.pz_rules.specs.pz_state.declared.state.FrameId.{FrameId}
 use Rattle.pz_nodes_shapes.specs.declared.node.Node.{Node}
 use Rattle.pz_nodes_shapes.specs.Rose.{Map, root, width}
 use Rattle.pz_nodes_shapes.specs.Seen.{seen, seen_node}

@@ -3,13 +3,13 @@ use Rattle.std.proofs.Common.{get_or, if◌then◌else◌, ◌≡◌, ◌<◌, �
 use Rattle.std.specs.Prelude.{option_map, slice_get, slice_index_or}
 use Rattle.std.specs.List.{cons_option}
 use Rattle.std.proofs.lemmas.Option.{slice_get_past}
-use Rattle.pz_syntax.specs.declared.tokens.Pos.{Pos}
-use Rattle.pz_syntax.specs.Statements as statement
-use Rattle.pz_offer.specs.declared.trouble.Trouble.{Trouble}
+use Rattle.pz_classes_code.specs.pz_syntax.declared.tokens.Pos.{Pos}
+use Rattle.pz_classes_code.specs.pz_syntax.Statements as statement
+use Rattle.pz_rules.specs.pz_offer.declared.trouble.Trouble.{Trouble}
 use Rattle.pz_nodes_shapes.specs.declared.node.Node.{Node}
 use Rattle.pz_nodes_shapes.specs.Rose.{none, gone, more, Map, roots, width}
 use Rattle.pz_nodes_shapes.specs.Seen.{seen, seen_node}
-use Rattle.pz_state.specs.declared.state.FrameId.{FrameId}
+use Rattle.pz_rules.specs.pz_state.declared.state.FrameId.{FrameId}
 use Rattle.pz_rules.specs.declared.action.Kind.TheVariants.{Expire}
 use Rattle.pz_rules.specs.Settings.{Context}
 use Rattle.pz_rules.specs.Terms.{Step, Term, Terms, child, term_at, height}

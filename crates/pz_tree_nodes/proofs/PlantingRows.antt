@@ -1,17 +1,17 @@
 -- Worked terms and what they are planted as, which the checker works out.
 use Rattle.std.proofs.Common.{◌≡◌, ◌-◌, ◌^◌, ℕ, true, [], ◌∷◌, Some, None, refl, arith}
-use Rattle.pz_syntax.specs.declared.tokens.Pos.{Pos}
-use Rattle.pz_syntax.specs.declared.names.Id.{Id}
-use Rattle.pz_syntax.specs.Expressions.{clock, left_out}
-use Rattle.pz_syntax.specs.Statements as statement
+use Rattle.pz_classes_code.specs.pz_syntax.declared.tokens.Pos.{Pos}
+use Rattle.pz_classes_code.specs.pz_syntax.declared.names.Id.{Id}
+use Rattle.pz_classes_code.specs.pz_syntax.Expressions.{clock, left_out}
+use Rattle.pz_classes_code.specs.pz_syntax.Statements as statement
 use Rattle.pz_classes_code.specs.declared.step.Step.{Step}
 use Rattle.pz_classes_code.specs.StepView as step
 use Rattle.pz_clock.specs.Shifts.{new_shift, frozen}
 use Rattle.pz_nodes.specs.Arena.{Arena, find}
 use Rattle.pz_nodes_shapes.specs.declared.node.Node.{Node}
 use Rattle.pz_nodes_shapes.specs.Rose.{node, none, gone, more, Stands}
-use Rattle.pz_offer.specs.declared.summary.Summary.{Summary}
-use Rattle.pz_offer.specs.Summaries.{nothing}
+use Rattle.pz_rules.specs.pz_offer.declared.summary.Summary.{Summary}
+use Rattle.pz_rules.specs.pz_offer.Summaries.{nothing}
 use Rattle.pz_rules.specs.Terms.{Term, done, wait, parallel, abort, handling, no_terms, and}
 use Rattle.pz_tree_nodes.specs.declared.kept.Kept.{Kept}
 use Rattle.pz_tree_nodes.specs.declared.node.Head.TheVariants as kind

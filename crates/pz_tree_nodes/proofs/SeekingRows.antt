@@ -1,11 +1,11 @@
 -- A worked term in its nodes, which the checker works out.
 use Rattle.std.proofs.Common.{◌≡◌, ℕ, [], ◌∷◌, Some, None, refl, arith}
 use Rattle.std.specs.Prelude.{slice_index_or}
-use Rattle.pz_syntax.specs.declared.tokens.Pos.{Pos}
+use Rattle.pz_classes_code.specs.pz_syntax.declared.tokens.Pos.{Pos}
 use Rattle.pz_clock.specs.Shifts.{ShiftView}
 use Rattle.pz_nodes_shapes.specs.Rose.{node, none, gone, more, Map}
-use Rattle.pz_offer.specs.Summaries.{nothing}
-use Rattle.pz_syntax.specs.Statements.{skip}
+use Rattle.pz_rules.specs.pz_offer.Summaries.{nothing}
+use Rattle.pz_classes_code.specs.pz_syntax.Statements.{skip}
 use Rattle.pz_rules.specs.Settings.{Context}
 use Rattle.pz_rules.specs.Terms.{Step, Term}
 use Rattle.pz_rules.specs.Terms as term

@@ -1,6 +1,6 @@
 -- Whether some active part is of a sort, form by form.
 use Rattle.std.proofs.Common.{◌≡◌, ℕ, suc, Bool, true, false, ◌||◌, List, [], ◌∷◌, ◌++◌, map, Result, Ok, Err, refl, ap, sym, ◌∙◌}
-use Rattle.pz_offer.specs.declared.trouble.Trouble.{Trouble}
+use Rattle.pz_rules.specs.pz_offer.declared.trouble.Trouble.{Trouble}
 use Rattle.pz_rules.specs.Terms.{Term, Terms, no_terms, and}
 use Rattle.pz_rules.specs.Settings.{Context}
 use Rattle.pz_rules.specs.devices.Walk.{ActivePart, under, behind, active_parts, active_children}

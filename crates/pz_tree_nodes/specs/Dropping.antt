@@ -1,6 +1,6 @@
 -- Parts of a tree that are dropped, with the frames that stand in them.
 use Rattle.std.specs.Prelude.{◌≡◌, ◌+◌, ℕ, List, ◌++◌, map, Option}
-use Rattle.pz_state.specs.declared.state.FrameId.{FrameId}
+use Rattle.pz_rules.specs.pz_state.declared.state.FrameId.{FrameId}
 use Rattle.pz_nodes_shapes.specs.Rose.{Map, root, roots, size, sizes, has, has_any, Stands, StandAll}
 use Rattle.pz_nodes_shapes.specs.Change.{Change, no_key}
 use Rattle.pz_rules.specs.Terms.{frames_in, frames_in_all}

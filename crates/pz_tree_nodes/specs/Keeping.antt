@@ -1,6 +1,6 @@
 -- What a node keeps of its term.
 use Rattle.std.specs.Prelude.{◌≡◌, ℕ, suc, max, Bool, true, false, ◌||◌}
-use Rattle.pz_offer.specs.Summaries.{nothing, join, shifted}
+use Rattle.pz_rules.specs.pz_offer.Summaries.{nothing, join, shifted}
 use Rattle.pz_rules.specs.Terms.{Term, Terms, no_terms, and, height, greatest_height}
 use Rattle.pz_rules.specs.Settings.{Context}
 use Rattle.pz_tree_standing.specs.Summaries.{summary_of, summaries_of}

@@ -1,6 +1,6 @@
 -- The part of a term at a place, in the nodes that stand for the term.
 use Rattle.std.specs.Prelude.{◌≡◌, ℕ, [], ◌∷◌, Option, Some, None}
-use Rattle.pz_offer.specs.PlaceOrder.{Place}
+use Rattle.pz_rules.specs.pz_offer.PlaceOrder.{Place}
 use Rattle.pz_nodes_shapes.specs.declared.node.Node.{Node}
 use Rattle.pz_nodes_shapes.specs.Rose.{Map, root, Stands}
 use Rattle.pz_nodes_shapes.specs.Seen.{seen}

@@ -2,10 +2,10 @@
 
 ghost use Rattle.std.specs.Prelude.{◌≡◌, map};
 ghost use Rattle.pz_classes_code.specs.CodeView.{view, list_view, part_view, link_view, sending_view, links_of, sendings_of};
-ghost use Rattle.pz_eval_rules.specs.Clocks as clocks;
+ghost use Rattle.pz_rules.specs.pz_eval_rules.Clocks as clocks;
 
+use pz_classes_code::pz_items::{Items, Shared};
 use pz_classes_code::{Code, CodeForm, CodeLink, CodeSending};
-use pz_items::{Items, Shared};
 
 /// Whether `currentTime` is written somewhere in the expression. One look at each part of it, at most.
 #[cycle(naming)]

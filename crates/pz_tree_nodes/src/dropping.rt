@@ -6,7 +6,7 @@ ghost use Rattle.pz_tree_nodes.specs.devices.Frames.{frames_here};
 
 use crate::{Head, Node};
 use pz_nodes::{Key, Nodes, Steps};
-use pz_state::FrameId;
+use pz_rules::pz_state::FrameId;
 use std::alloc::AllocError;
 use std::sync::ledger::Ledger;
 

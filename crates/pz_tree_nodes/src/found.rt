@@ -1,8 +1,8 @@
+use pz_classes_code::pz_syntax::Pos;
 use pz_nodes::Key;
-use pz_offer::Place;
 use pz_rules::Kind;
-use pz_state::FrameId;
-use pz_syntax::Pos;
+use pz_rules::pz_offer::Place;
+use pz_rules::pz_state::FrameId;
 
 /// A part of a term, and where it stands in the nodes.
 #[derive(Drop)]

@@ -6,9 +6,9 @@ ghost use Rattle.pz_tree_nodes.specs.View.{head_view};
 ghost use Rattle.pz_tree_nodes.specs.devices.Own.{statement_may_do, may_do};
 
 use crate::Head;
+use pz_classes_code::pz_syntax::Pos;
 use pz_classes_code::{Step, StepForm};
 use pz_rules::Kind;
-use pz_syntax::Pos;
 
 /// An internal action, and the place of its statement in the text.
 #[derive(Clone, Copy)]

@@ -8,7 +8,7 @@ ghost use Rattle.pz_tree_nodes.specs.View.{head_view};
 
 use crate::Head;
 use pz_clock::Shift;
-use pz_state::FrameId;
+use pz_rules::pz_state::FrameId;
 
 fn is_first(number: usize) -> bool
     ensures { result ≡ reached.is_first number }

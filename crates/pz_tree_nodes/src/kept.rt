@@ -1,9 +1,9 @@
 ghost use Rattle.std.specs.Prelude.{◌≡◌, ◌*◌, IsTrue, IfOk};
-ghost use Rattle.pz_offer.specs.Summaries.{AreJoinable, MayShift};
+ghost use Rattle.pz_rules.specs.pz_offer.Summaries.{AreJoinable, MayShift};
 ghost use Rattle.pz_tree_nodes.specs.Keeping as keeping;
 ghost use Rattle.pz_tree_nodes.specs.Keeping.{kept_none, kept_done, kept_asked, joined, kept_later};
 
-use pz_offer::Summary;
+use pz_rules::pz_offer::Summary;
 use std::alloc::AllocError;
 
 /// What a node keeps of its term, so that nobody need look below it.

@@ -13,7 +13,7 @@ use crate::inside::reaches;
 use crate::parts::{Spot, child_in, past_shift};
 use crate::{Head, Node};
 use pz_nodes::{Key, Nodes, Steps};
-use pz_offer::Place;
+use pz_rules::pz_offer::Place;
 use std::alloc::{AllocError, Global};
 use std::sync::ledger::Ledger;
 

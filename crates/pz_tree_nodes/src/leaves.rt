@@ -8,9 +8,9 @@ ghost use Rattle.pz_tree_nodes.specs.devices.Leaves as leaves;
 ghost use Rattle.pz_tree_nodes.specs.devices.Leaves.{statement_kept, kept_action, kept_receive, delay_kept};
 
 use crate::{Kept, names_clock};
+use pz_classes_code::pz_items::Shared;
 use pz_classes_code::{Code, Step, StepForm};
-use pz_items::Shared;
-use pz_offer::Summary;
+use pz_rules::pz_offer::Summary;
 
 /// Of a statement that has not begun.
 pub(crate) fn leaf_kept(step: &Step) -> Kept

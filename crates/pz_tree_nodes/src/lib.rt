@@ -29,3 +29,4 @@ pub use listing::list_offering;
 pub use node::{Head, Node, What};
 pub use parts::{Spot, part_at};
 pub use planting::plant;
+pub use pz_tree_standing;

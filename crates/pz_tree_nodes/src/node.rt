@@ -1,12 +1,12 @@
 ghost use Rattle.std.specs.Prelude.{◌≡◌};
 
 use crate::Kept;
+use pz_classes_code::pz_items::{Items, Shared};
+use pz_classes_code::pz_syntax::Pos;
 use pz_classes_code::{Code, Slot, Step};
 use pz_clock::Shift;
-use pz_items::{Items, Shared};
 use pz_rules::Rest;
-use pz_state::FrameId;
-use pz_syntax::Pos;
+use pz_rules::pz_state::FrameId;
 
 /// A node of an execution tree as it lies in the map.
 pub type Node = pz_nodes_shapes::Node<What>;

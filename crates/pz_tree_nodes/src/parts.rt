@@ -11,7 +11,7 @@ ghost use Rattle.pz_tree_nodes.specs.devices.Levels.{PastRule, PastRightRule, Ch
 use crate::inside::{clock_inside, frame_inside, local_clock};
 use crate::{Head, Node};
 use pz_nodes::{Key, Nodes, Steps};
-use pz_state::FrameId;
+use pz_rules::pz_state::FrameId;
 use std::sync::ledger::Ledger;
 
 /// Where a part stands in the nodes.

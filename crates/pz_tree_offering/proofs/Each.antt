@@ -1,8 +1,8 @@
 -- Parts that are taken one after another.
 use Rattle.std.proofs.Common.{◌≡◌, ℕ, List, [], ◌∷◌, ◌++◌, Option, refl, sym, ◌∙◌, subst, append_assoc, append-nil}
-use Rattle.pz_rules.specs.Settings.{Context}
-use Rattle.pz_rules.specs.Terms.{Term}
-use Rattle.pz_rules.specs.devices.Walk.{Noted}
+use Rattle.pz_tree_nodes.specs.pz_rules.Settings.{Context}
+use Rattle.pz_tree_nodes.specs.pz_rules.Terms.{Term}
+use Rattle.pz_tree_nodes.specs.pz_rules.devices.Walk.{Noted}
 use Rattle.pz_nodes_shapes.specs.Rose.{Map}
 use Rattle.pz_tree_nodes.specs.declared.node.What.{What}
 use Rattle.pz_tree_nodes.specs.declared.found.Part.{Part}

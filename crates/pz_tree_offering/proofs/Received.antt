@@ -1,24 +1,24 @@
 -- What a part receives, by its node.
 use Rattle.std.proofs.Common.{◌≡◌, ℕ, Bool, true, false, ◌||◌, List, [], ◌∷◌, ◌++◌, length, Option, Some, None, refl, ap, sym, ◌∙◌}
 use Rattle.std.specs.Prelude.{is_some}
-use Rattle.pz_syntax.specs.declared.tokens.Pos.{Pos}
-use Rattle.pz_syntax.specs.declared.names.Id.{Id}
-use Rattle.pz_syntax.specs.Expressions as ours
-use Rattle.pz_syntax.specs.Statements as statement
-use Rattle.pz_value.specs.declared.value.ClassId.{ClassId}
+use Rattle.pz_classes_code.specs.pz_syntax.declared.tokens.Pos.{Pos}
+use Rattle.pz_classes_code.specs.pz_syntax.declared.names.Id.{Id}
+use Rattle.pz_classes_code.specs.pz_syntax.Expressions as ours
+use Rattle.pz_classes_code.specs.pz_syntax.Statements as statement
+use Rattle.pz_classes_code.specs.pz_value.declared.value.ClassId.{ClassId}
 use Rattle.pz_classes_code.specs.declared.slot.Slot.{Slot}
 use Rattle.pz_classes_code.specs.declared.step.Step as lying
 use Rattle.pz_classes_code.specs.StepView as step
 use Rattle.pz_nodes_shapes.specs.declared.node.Node.{Node}
 use Rattle.pz_nodes_shapes.specs.Rose.{node, Map, root, roots, Stands}
-use Rattle.pz_rules.specs.Terms.{Code, Step, Term, leaf}
-use Rattle.pz_rules.specs.Laws.{part_of}
-use Rattle.pz_rules.specs.Messages.{variables_of}
-use Rattle.pz_rules.specs.Settings.{Context}
-use Rattle.pz_rules.specs.devices.Walk as walk
-use Rattle.pz_rules.specs.devices.Walk.{Noted, received_by, statement_receives}
-use Rattle.pz_tree_standing.specs.Asked.{asks}
-use Rattle.pz_tree_standing.specs.Woken.{is_clocked, clocked}
+use Rattle.pz_tree_nodes.specs.pz_rules.Terms.{Code, Step, Term, leaf}
+use Rattle.pz_tree_nodes.specs.pz_rules.Laws.{part_of}
+use Rattle.pz_tree_nodes.specs.pz_rules.Messages.{variables_of}
+use Rattle.pz_tree_nodes.specs.pz_rules.Settings.{Context}
+use Rattle.pz_tree_nodes.specs.pz_rules.devices.Walk as walk
+use Rattle.pz_tree_nodes.specs.pz_rules.devices.Walk.{Noted, received_by, statement_receives}
+use Rattle.pz_tree_nodes.specs.pz_tree_standing.Asked.{asks}
+use Rattle.pz_tree_nodes.specs.pz_tree_standing.Woken.{is_clocked, clocked}
 use Rattle.pz_tree_nodes.specs.declared.node.Head.TheVariants as kind
 use Rattle.pz_tree_nodes.specs.declared.node.What.{What}
 use Rattle.pz_tree_nodes.specs.View.{Plant, term_in}

@@ -1,35 +1,35 @@
 -- What a part sends or receives, by its node.
 use Rattle.std.proofs.Common.{◌≡◌, ℕ, List, [], ◌∷◌, ◌++◌, Option, Some, None, Result, Ok, Err, refl, ap, sym, ◌∙◌, subst}
 use Rattle.std.specs.Prelude.{option_map}
-use Rattle.pz_syntax.specs.declared.tokens.Pos.{Pos}
-use Rattle.pz_syntax.specs.declared.names.Id.{Id}
-use Rattle.pz_syntax.specs.Expressions as ours
-use Rattle.pz_syntax.specs.Statements as statement
-use Rattle.pz_value.specs.declared.value.ClassId.{ClassId}
-use Rattle.pz_value.specs.declared.value.Value.{Value}
+use Rattle.pz_classes_code.specs.pz_syntax.declared.tokens.Pos.{Pos}
+use Rattle.pz_classes_code.specs.pz_syntax.declared.names.Id.{Id}
+use Rattle.pz_classes_code.specs.pz_syntax.Expressions as ours
+use Rattle.pz_classes_code.specs.pz_syntax.Statements as statement
+use Rattle.pz_classes_code.specs.pz_value.declared.value.ClassId.{ClassId}
+use Rattle.pz_classes_code.specs.pz_value.declared.value.Value.{Value}
 use Rattle.pz_classes_code.specs.declared.slot.Slot.{Slot}
 use Rattle.pz_classes_code.specs.declared.step.Step as lying
 use Rattle.pz_classes_code.specs.StepView as step
 use Rattle.pz_classes_code.specs.CodeView.{part_view}
-use Rattle.pz_state.specs.States.{StateView}
-use Rattle.pz_copy.specs.Parcels.{ParcelView}
-use Rattle.pz_copy.specs.Packing.{IsParcelOf}
-use Rattle.pz_offer.specs.declared.trouble.Trouble.{Trouble}
+use Rattle.pz_tree_nodes.specs.pz_state.States.{StateView}
+use Rattle.pz_tree_nodes.specs.pz_copy.Parcels.{ParcelView}
+use Rattle.pz_tree_nodes.specs.pz_copy.Packing.{IsParcelOf}
+use Rattle.pz_tree_nodes.specs.pz_offer.declared.trouble.Trouble.{Trouble}
 use Rattle.pz_nodes_shapes.specs.declared.node.Node.{Node}
 use Rattle.pz_nodes_shapes.specs.Rose.{node, Map, root, roots, Stands}
 use Rattle.pz_nodes_shapes.specs.Seen.{seen, seen_node}
-use Rattle.pz_rules.specs.Laws.{part_of}
-use Rattle.pz_rules.specs.Settings.{Context}
-use Rattle.pz_rules.specs.Terms.{Step, Term, leaf}
-use Rattle.pz_rules.specs.Evaluations.{GivesPart}
-use Rattle.pz_rules.specs.devices.Computed.{PartsAreComputed}
-use Rattle.pz_rules.specs.devices.Found.{found_part, left_part}
-use Rattle.pz_rules.specs.devices.Walk as walk
-use Rattle.pz_rules.specs.devices.Walk.{Noted, sent_by, statement_sends, sending, received_by, statement_receives}
+use Rattle.pz_tree_nodes.specs.pz_rules.Laws.{part_of}
+use Rattle.pz_tree_nodes.specs.pz_rules.Settings.{Context}
+use Rattle.pz_tree_nodes.specs.pz_rules.Terms.{Step, Term, leaf}
+use Rattle.pz_tree_nodes.specs.pz_rules.Evaluations.{GivesPart}
+use Rattle.pz_tree_nodes.specs.pz_rules.devices.Computed.{PartsAreComputed}
+use Rattle.pz_tree_nodes.specs.pz_rules.devices.Found.{found_part, left_part}
+use Rattle.pz_tree_nodes.specs.pz_rules.devices.Walk as walk
+use Rattle.pz_tree_nodes.specs.pz_rules.devices.Walk.{Noted, sent_by, statement_sends, sending, received_by, statement_receives}
 use Rattle.pz_part_queries.specs.Parcels.{Packs, packs, fails}
-use Rattle.pz_tree_standing.specs.Heads.{formed}
-use Rattle.pz_tree_standing.specs.Standing.{terms_of}
-use Rattle.pz_tree_standing.specs.Whole.{IsNoShift}
+use Rattle.pz_tree_nodes.specs.pz_tree_standing.Heads.{formed}
+use Rattle.pz_tree_nodes.specs.pz_tree_standing.Standing.{terms_of}
+use Rattle.pz_tree_nodes.specs.pz_tree_standing.Whole.{IsNoShift}
 use Rattle.pz_tree_nodes.specs.declared.node.Head.TheVariants as kind
 use Rattle.pz_tree_nodes.specs.declared.node.What.{What}
 use Rattle.pz_tree_nodes.specs.View.{Plant, head_view, what_view, shapes_of}

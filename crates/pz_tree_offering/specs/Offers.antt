@@ -1,14 +1,14 @@
 -- The active sends and receives of a term, from the nodes that stand for the term.
 use Rattle.std.specs.Prelude.{◌≡◌, ◌≤◌, ℕ, Bool, false, List, Option, is_some}
-use Rattle.pz_syntax.specs.Statements.{receive}
-use Rattle.pz_copy.specs.Packing.{IsParcelOf}
+use Rattle.pz_classes_code.specs.pz_syntax.Statements.{receive}
+use Rattle.pz_tree_nodes.specs.pz_copy.Packing.{IsParcelOf}
 use Rattle.pz_nodes_shapes.specs.Rose.{Map}
-use Rattle.pz_rules.specs.Laws.{part_of}
-use Rattle.pz_rules.specs.Settings.{Context}
-use Rattle.pz_rules.specs.Terms.{Step, Term, leaf, height}
-use Rattle.pz_rules.specs.devices.Walk as walk
-use Rattle.pz_rules.specs.devices.Walk.{Noted, active_parts, noted, sent_by, received_by}
-use Rattle.pz_tree_standing.specs.Woken.{is_clocked}
+use Rattle.pz_tree_nodes.specs.pz_rules.Laws.{part_of}
+use Rattle.pz_tree_nodes.specs.pz_rules.Settings.{Context}
+use Rattle.pz_tree_nodes.specs.pz_rules.Terms.{Step, Term, leaf, height}
+use Rattle.pz_tree_nodes.specs.pz_rules.devices.Walk as walk
+use Rattle.pz_tree_nodes.specs.pz_rules.devices.Walk.{Noted, active_parts, noted, sent_by, received_by}
+use Rattle.pz_tree_nodes.specs.pz_tree_standing.Woken.{is_clocked}
 use Rattle.pz_tree_nodes.specs.declared.node.What.{What}
 use Rattle.pz_tree_nodes.specs.Standing.{RightUnder}
 use Rattle.pz_tree_nodes.specs.Listing.{Each}

@@ -2,12 +2,12 @@
 
 ghost use Rattle.std.specs.Prelude.{◌≡◌, length};
 ghost use Rattle.pz_classes_code.specs.StepView.{view};
-ghost use Rattle.pz_rules.specs.Messages.{variables_of};
+ghost use Rattle.pz_tree_nodes.specs.pz_rules.Messages.{variables_of};
 ghost use Rattle.pz_tree_offering.specs.devices.Forms.{IsSendForm, IsReceiveForm};
 
+use pz_classes_code::pz_items::{Items, Shared};
+use pz_classes_code::pz_syntax::{Id, Pos};
 use pz_classes_code::{Code, Slot, Step, StepForm};
-use pz_items::{Items, Shared};
-use pz_syntax::{Id, Pos};
 
 /// What a send says.
 #[derive(Clone, Copy)]

@@ -1,6 +1,6 @@
+use pz_classes_code::pz_syntax::Name;
 use pz_copy::Parcel;
 use pz_offer::Place;
-use pz_syntax::Name;
 
 /// An active send, with the values that it has for the message now.
 #[derive(Drop)]

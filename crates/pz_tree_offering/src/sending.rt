@@ -1,8 +1,8 @@
 // Active sends, each with its parcel.
 
 ghost use Rattle.std.specs.Prelude.{◌≡◌, ℕ, IfOk, OnOk};
-ghost use Rattle.pz_syntax.specs.Classes.{ModelTree};
-ghost use Rattle.pz_eval.specs.Known.{AreKnown};
+ghost use Rattle.pz_classes_code.specs.pz_syntax.Classes.{ModelTree};
+ghost use Rattle.pz_part_queries.specs.pz_eval.Known.{AreKnown};
 ghost use Rattle.pz_nodes.specs.Arena.{find};
 ghost use Rattle.pz_part_queries.specs.Standpoints.{Knows, seen_from};
 ghost use Rattle.pz_tree_offering.specs.Offers.{SendsRule};
@@ -13,6 +13,7 @@ use crate::offers::ActiveSend;
 use pz_nodes::{Nodes, Steps};
 use pz_part_queries::{Standpoint, ask_parcel};
 use pz_state::State;
+use pz_tree_nodes::pz_tree_standing::pz_rules;
 use pz_tree_nodes::{Head, Node, Offering, Part, Spot, list_offering};
 use std::alloc::{AllocError, Global};
 use std::sync::ledger::Ledger;

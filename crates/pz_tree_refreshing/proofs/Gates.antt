@@ -1,24 +1,24 @@
 -- A node that is asked, form by form.
 use Rattle.std.proofs.Common.{◌≡◌, ℕ, ◌||◌, Bool, true, false, List, map, Option, Some, Result, Ok, Err, refl, ap, sym, ◌∙◌, subst}
-use Rattle.pz_syntax.specs.declared.tokens.Pos.{Pos}
+use Rattle.pz_classes_code.specs.pz_syntax.declared.tokens.Pos.{Pos}
 use Rattle.pz_clock.specs.Shifts.{ShiftView, is_running}
-use Rattle.pz_eval_rules.specs.Clocks.{names_clock}
-use Rattle.pz_offer.specs.declared.trouble.Trouble.{Trouble}
-use Rattle.pz_offer.specs.declared.summary.Summary.{Summary}
-use Rattle.pz_offer.specs.Summaries.{nothing, join}
-use Rattle.pz_offer.proofs.Joins.{join_left, join_right}
-use Rattle.pz_rules.specs.Settings.{Context}
-use Rattle.pz_rules.specs.Terms.{Code, Step, Term, Terms, term_at, leaf}
-use Rattle.pz_rules.specs.devices.Found.{tested}
-use Rattle.pz_rules.specs.devices.Walk.{ActivePart, under, behind, active_parts}
-use Rattle.pz_tree_standing.specs.Asked.{asks}
-use Rattle.pz_tree_standing.specs.Summaries.{summary_of, gated}
-use Rattle.pz_tree_standing.specs.Woken.{any_part, begins, is_clocked, statement_begins, statement_names_clock, starts, clocked}
-use Rattle.pz_tree_standing.proofs.Tallies.{summary_guarded}
-use Rattle.pz_tree_standing.proofs.Unasked.{alone}
-use Rattle.pz_tree_standing.specs.Heads.{Head, inner_frame, formed}
-use Rattle.pz_tree_standing.specs.Heads as head
-use Rattle.pz_tree_standing.specs.Reached.{is_true, GateRight}
+use Rattle.pz_tree_nodes.specs.pz_eval_rules.Clocks.{names_clock}
+use Rattle.pz_tree_nodes.specs.pz_offer.declared.trouble.Trouble.{Trouble}
+use Rattle.pz_tree_nodes.specs.pz_offer.declared.summary.Summary.{Summary}
+use Rattle.pz_tree_nodes.specs.pz_offer.Summaries.{nothing, join}
+use Rattle.pz_tree_nodes.proofs.pz_offer_proofs.Joins.{join_left, join_right}
+use Rattle.pz_tree_nodes.specs.pz_rules.Settings.{Context}
+use Rattle.pz_tree_nodes.specs.pz_rules.Terms.{Code, Step, Term, Terms, term_at, leaf}
+use Rattle.pz_tree_nodes.specs.pz_rules.devices.Found.{tested}
+use Rattle.pz_tree_nodes.specs.pz_rules.devices.Walk.{ActivePart, under, behind, active_parts}
+use Rattle.pz_tree_nodes.specs.pz_tree_standing.Asked.{asks}
+use Rattle.pz_tree_nodes.specs.pz_tree_standing.Summaries.{summary_of, gated}
+use Rattle.pz_tree_nodes.specs.pz_tree_standing.Woken.{any_part, begins, is_clocked, statement_begins, statement_names_clock, starts, clocked}
+use Rattle.pz_tree_nodes.proofs.pz_tree_standing_proofs.Tallies.{summary_guarded}
+use Rattle.pz_tree_nodes.proofs.pz_tree_standing_proofs.Unasked.{alone}
+use Rattle.pz_tree_nodes.specs.pz_tree_standing.Heads.{Head, inner_frame, formed}
+use Rattle.pz_tree_nodes.specs.pz_tree_standing.Heads as head
+use Rattle.pz_tree_nodes.specs.pz_tree_standing.Reached.{is_true, GateRight}
 use Rattle.pz_tree_nodes.specs.declared.kept.Kept.{Kept}
 use Rattle.pz_tree_nodes.specs.declared.node.Head as lying
 use Rattle.pz_tree_nodes.specs.declared.node.Head.TheVariants as kind

@@ -4,16 +4,16 @@ use Rattle.std.proofs.lemmas.Grind.{common_steps}
 use Rattle.pz_nodes_shapes.specs.Rose.{node, none, gone, more, Map, root, roots, payload, has, has_any, Stands, StandAll}
 use Rattle.pz_nodes_shapes.specs.Reading.{depth}
 use Rattle.pz_nodes_shapes.proofs.Frames.{or_neither, unless, decided, not_both, stands_kept, all_kept}
-use Rattle.pz_offer.specs.Summaries.{nothing, join, shifted, MayShift}
-use Rattle.pz_offer.proofs.Joins.{join_left, join_right}
-use Rattle.pz_rules.specs.Settings.{Context}
-use Rattle.pz_rules.specs.Terms.{Term, done, Terms, no_terms, and}
-use Rattle.pz_tree_standing.specs.Summaries.{summary_of}
-use Rattle.pz_tree_standing.specs.Woken.{starts, clocked}
-use Rattle.pz_tree_standing.specs.Heads.{Head, inner_clock}
-use Rattle.pz_tree_standing.specs.Standing.{terms_of, HeadFits}
-use Rattle.pz_tree_standing.specs.Reached.{reaches, behind_inside}
-use Rattle.pz_tree_standing.specs.Right.{Right}
+use Rattle.pz_tree_nodes.specs.pz_offer.Summaries.{nothing, join, shifted, MayShift}
+use Rattle.pz_tree_nodes.proofs.pz_offer_proofs.Joins.{join_left, join_right}
+use Rattle.pz_tree_nodes.specs.pz_rules.Settings.{Context}
+use Rattle.pz_tree_nodes.specs.pz_rules.Terms.{Term, done, Terms, no_terms, and}
+use Rattle.pz_tree_nodes.specs.pz_tree_standing.Summaries.{summary_of}
+use Rattle.pz_tree_nodes.specs.pz_tree_standing.Woken.{starts, clocked}
+use Rattle.pz_tree_nodes.specs.pz_tree_standing.Heads.{Head, inner_clock}
+use Rattle.pz_tree_nodes.specs.pz_tree_standing.Standing.{terms_of, HeadFits}
+use Rattle.pz_tree_nodes.specs.pz_tree_standing.Reached.{reaches, behind_inside}
+use Rattle.pz_tree_nodes.specs.pz_tree_standing.Right.{Right}
 use Rattle.pz_tree_nodes.specs.declared.kept.Kept.{Kept}
 use Rattle.pz_tree_nodes.specs.declared.node.What.{What}
 use Rattle.pz_tree_nodes.specs.Keeping.{HasFlags, kept_none, joined, kept_later}
@@ -23,12 +23,12 @@ use Rattle.pz_tree_nodes.specs.Fresh.{Flagged}
 use Rattle.pz_tree_nodes.proofs.Joins.{joined_associative, joined_none, none_joined}
 use Rattle.pz_tree_nodes.proofs.Wakings.{or_none}
 use Rattle.pz_tree_refreshing.specs.Live.{live_below}
-use Rattle.pz_rules.specs.Short.{IsShort}
-use Rattle.pz_tree_standing.specs.Soon.{HasRoom, IsSoon}
+use Rattle.pz_tree_nodes.specs.pz_rules.Short.{IsShort}
+use Rattle.pz_tree_nodes.specs.pz_tree_standing.Soon.{HasRoom, IsSoon}
 use Rattle.pz_tree_refreshing.specs.Refreshing.{Timely}
 use Rattle.pz_tree_refreshing.specs.devices.Reached.{added, reached_sum, Says}
 use Rattle.pz_tree_refreshing.specs.devices.Levels.{IsBare, NodeRefreshed, KidsRefreshed, IsLeft, IsBrought, AtRule, KidRule, KidsRule, RefreshesOn}
-use Rattle.pz_tree_standing.proofs.Soon.{least_soon, clock_back, room_inside, here_later}
+use Rattle.pz_tree_nodes.proofs.pz_tree_standing_proofs.Soon.{least_soon, clock_back, room_inside, here_later}
 use Rattle.pz_tree_refreshing.proofs.Short.{may_shift, soon_here}
 use Rattle.pz_tree_refreshing.proofs.Sums.{plus_added, added_nil}
 

@@ -5,20 +5,20 @@ use Rattle.pz_nodes_shapes.specs.Rose.{node, none, gone, more, Map, root, roots,
 use Rattle.pz_nodes_shapes.specs.Change.{OnlyAt}
 use Rattle.pz_nodes_shapes.specs.Reading.{depth, depths}
 use Rattle.pz_nodes_shapes.proofs.Frames.{or_neither, not_both, other_than, below_stand}
-use Rattle.pz_offer.specs.declared.summary.Summary.{Summary}
-use Rattle.pz_offer.specs.Summaries.{join}
-use Rattle.pz_rules.specs.Settings.{Context}
-use Rattle.pz_rules.specs.Terms.{done, Terms, and, term_at, height}
-use Rattle.pz_tree_standing.specs.Asked.{asks}
-use Rattle.pz_tree_standing.specs.Summaries.{summary_of}
-use Rattle.pz_tree_standing.specs.Heads.{Head, leaf, wait, sequence, parallel, select, guarded, frame, abort, idle, handling, shifted, Shapes, inner_clock, inner_frame, formed}
-use Rattle.pz_tree_standing.specs.Laws.{NoDeeperThanHigh}
-use Rattle.pz_tree_standing.specs.Standing.{term_of, terms_of, FitAll}
-use Rattle.pz_tree_standing.specs.Reached.{reaches}
-use Rattle.pz_tree_standing.specs.Resting.{RestAll}
-use Rattle.pz_tree_standing.specs.Right.{Right, RightAll}
-use Rattle.pz_tree_standing.specs.Whole.{OneInside, HasParts, AreWhole}
-use Rattle.pz_tree_standing.proofs.Resting.{rests_are_right}
+use Rattle.pz_tree_nodes.specs.pz_offer.declared.summary.Summary.{Summary}
+use Rattle.pz_tree_nodes.specs.pz_offer.Summaries.{join}
+use Rattle.pz_tree_nodes.specs.pz_rules.Settings.{Context}
+use Rattle.pz_tree_nodes.specs.pz_rules.Terms.{done, Terms, and, term_at, height}
+use Rattle.pz_tree_nodes.specs.pz_tree_standing.Asked.{asks}
+use Rattle.pz_tree_nodes.specs.pz_tree_standing.Summaries.{summary_of}
+use Rattle.pz_tree_nodes.specs.pz_tree_standing.Heads.{Head, leaf, wait, sequence, parallel, select, guarded, frame, abort, idle, handling, shifted, Shapes, inner_clock, inner_frame, formed}
+use Rattle.pz_tree_nodes.specs.pz_tree_standing.Laws.{NoDeeperThanHigh}
+use Rattle.pz_tree_nodes.specs.pz_tree_standing.Standing.{term_of, terms_of, FitAll}
+use Rattle.pz_tree_nodes.specs.pz_tree_standing.Reached.{reaches}
+use Rattle.pz_tree_nodes.specs.pz_tree_standing.Resting.{RestAll}
+use Rattle.pz_tree_nodes.specs.pz_tree_standing.Right.{Right, RightAll}
+use Rattle.pz_tree_nodes.specs.pz_tree_standing.Whole.{OneInside, HasParts, AreWhole}
+use Rattle.pz_tree_nodes.proofs.pz_tree_standing_proofs.Resting.{rests_are_right}
 use Rattle.pz_tree_nodes.specs.declared.kept.Kept.{Kept}
 use Rattle.pz_tree_nodes.specs.declared.node.Head as lying
 use Rattle.pz_tree_nodes.specs.declared.node.What.{What}
@@ -27,13 +27,13 @@ use Rattle.pz_tree_nodes.specs.View.{Plant, Plants, head_view, shape_of, shapes_
 use Rattle.pz_tree_nodes.specs.Tended.{Tended, AreMarked}
 use Rattle.pz_tree_nodes.proofs.Marks.{marked_alike, unasked_right, unasked_flagged}
 use Rattle.pz_tree_refreshing.specs.Live.{live_below, live_among}
-use Rattle.pz_rules.specs.Short.{IsShort}
-use Rattle.pz_tree_standing.specs.Soon.{HasRoom, IsSoon}
+use Rattle.pz_tree_nodes.specs.pz_rules.Short.{IsShort}
+use Rattle.pz_tree_nodes.specs.pz_tree_standing.Soon.{HasRoom, IsSoon}
 use Rattle.pz_tree_refreshing.specs.Refreshing.{IsRefreshed, RefreshRule, Timely, AllTimely}
 use Rattle.pz_tree_refreshing.specs.devices.Asked.{IsAsked, AskRule}
 use Rattle.pz_tree_refreshing.specs.devices.Levels.{IsPutBack, NodeRefreshed, NodeRule, AtRule, written, KidsTended, KidsShort, AreBare, KidsRefreshed, KidsRule}
 use Rattle.pz_tree_refreshing.proofs.Gates.{may_ask}
-use Rattle.pz_tree_standing.proofs.Soon.{least_soon, short_soon, short_kid, unasked_kid}
+use Rattle.pz_tree_nodes.proofs.pz_tree_standing_proofs.Soon.{least_soon, short_soon, short_kid, unasked_kid}
 
 -- ---------------------------------------------------------- what is so of a node is so of each child
 

@@ -1,7 +1,7 @@
 -- The numbers of the first two children, and what a test means that is turned.
 use Rattle.std.proofs.Common.{◌≡◌, ℕ, zero, suc, eqb, Bool, true, false, refl, arith}
 use Rattle.std.specs.Prelude.{not}
-use Rattle.pz_tree_standing.specs.Reached.{is_first, is_second}
+use Rattle.pz_tree_nodes.specs.pz_tree_standing.Reached.{is_first, is_second}
 
 unlike : (m n : ℕ) → (m ≡ n → ⊥) → eqb m n ≡ false
 unlike m n d = elim (eqb m n) as (λ b. eqb m n ≡ b → eqb m n ≡ false) [ true ↦ λ e. absurd (d (grind arith)) | false ↦ λ e. e ] refl

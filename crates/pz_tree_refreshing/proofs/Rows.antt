@@ -1,6 +1,6 @@
 -- Worked nodes: how many of them are live, which the checker works out.
 use Rattle.std.proofs.Common.{◌≡◌, Some, None, refl}
-use Rattle.pz_syntax.specs.declared.tokens.Pos.{Pos}
+use Rattle.pz_classes_code.specs.pz_syntax.declared.tokens.Pos.{Pos}
 use Rattle.pz_classes_code.specs.declared.code.Code.{Code}
 use Rattle.pz_classes_code.specs.declared.step.Step.{Step}
 use Rattle.pz_clock.specs.Shifts.{ShiftView}

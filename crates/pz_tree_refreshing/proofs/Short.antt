@@ -1,8 +1,8 @@
 -- What a node keeps is due soon by a clock that is ahead, too.
 use Rattle.std.proofs.Common.{◌≡◌, ◌<◌, ◌+◌, ◌^◌, ℕ, Option, Some, None, arith}
 use Rattle.std.specs.Prelude.{option_map, IfSome}
-use Rattle.pz_offer.specs.Summaries.{MayShift}
-use Rattle.pz_tree_standing.specs.Soon.{HasRoom, IsSoon}
+use Rattle.pz_tree_nodes.specs.pz_offer.Summaries.{MayShift}
+use Rattle.pz_tree_nodes.specs.pz_tree_standing.Soon.{HasRoom, IsSoon}
 use Rattle.pz_tree_nodes.specs.declared.kept.Kept.{Kept}
 use Rattle.pz_tree_nodes.specs.Keeping.{kept_later}
 

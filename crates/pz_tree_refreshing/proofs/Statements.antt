@@ -1,11 +1,11 @@
 -- What a delay and a send that have not begun say of themselves.
 use Rattle.std.proofs.Common.{◌≡◌, ◌+◌, ℕ, zero, suc, eqb, if◌then◌else◌, true, false, List, Option, Some, None, Result, Ok, Err, refl, ap, sym, ◌∙◌, subst, arith, rules}
 use Rattle.std.specs.Prelude.{option_map}
-use Rattle.pz_syntax.specs.declared.tokens.Pos.{Pos}
-use Rattle.pz_syntax.specs.declared.names.Id.{Id}
-use Rattle.pz_syntax.specs.Expressions.{Part}
-use Rattle.pz_syntax.specs.Statements.{delay, send}
-use Rattle.pz_value.specs.declared.value.ClassId.{ClassId}
+use Rattle.pz_classes_code.specs.pz_syntax.declared.tokens.Pos.{Pos}
+use Rattle.pz_classes_code.specs.pz_syntax.declared.names.Id.{Id}
+use Rattle.pz_classes_code.specs.pz_syntax.Expressions.{Part}
+use Rattle.pz_classes_code.specs.pz_syntax.Statements.{delay, send}
+use Rattle.pz_classes_code.specs.pz_value.declared.value.ClassId.{ClassId}
 use Rattle.pz_classes_code.specs.declared.slot.Slot.{Slot}
 use Rattle.pz_classes_code.specs.declared.code.Code as lying
 use Rattle.pz_classes_code.specs.declared.step.Step.{Step as LyingStep}
@@ -14,19 +14,19 @@ use Rattle.pz_classes_code.specs.declared.step.StepForm.TheVariants as form
 use Rattle.pz_classes_code.specs.declared.step.StepForm.TheFolds.{the_lemmas}
 use Rattle.pz_classes_code.specs.CodeView as code
 use Rattle.pz_classes_code.specs.StepView as step
-use Rattle.pz_copy.specs.Parcels.{ParcelView}
-use Rattle.pz_eval_rules.specs.Clocks.{names_clock, part_names_clock}
-use Rattle.pz_offer.specs.declared.trouble.Trouble.{Trouble}
-use Rattle.pz_offer.specs.Summaries.{nothing}
-use Rattle.pz_rules.specs.Settings.{Context}
-use Rattle.pz_rules.specs.Terms.{Code, leaf}
-use Rattle.pz_rules.specs.devices.Computed.{PartsAreComputed}
-use Rattle.pz_rules.specs.devices.Found.{lasting, found_part, left_part}
-use Rattle.pz_rules.specs.devices.Walk.{expiry, answered, trouble_of, sending}
+use Rattle.pz_tree_nodes.specs.pz_copy.Parcels.{ParcelView}
+use Rattle.pz_tree_nodes.specs.pz_eval_rules.Clocks.{names_clock, part_names_clock}
+use Rattle.pz_tree_nodes.specs.pz_offer.declared.trouble.Trouble.{Trouble}
+use Rattle.pz_tree_nodes.specs.pz_offer.Summaries.{nothing}
+use Rattle.pz_tree_nodes.specs.pz_rules.Settings.{Context}
+use Rattle.pz_tree_nodes.specs.pz_rules.Terms.{Code, leaf}
+use Rattle.pz_tree_nodes.specs.pz_rules.devices.Computed.{PartsAreComputed}
+use Rattle.pz_tree_nodes.specs.pz_rules.devices.Found.{lasting, found_part, left_part}
+use Rattle.pz_tree_nodes.specs.pz_rules.devices.Walk.{expiry, answered, trouble_of, sending}
 use Rattle.pz_part_queries.specs.Parcels.{Packs, packs, fails}
-use Rattle.pz_tree_standing.specs.devices.Tallies.{one, own_summary}
+use Rattle.pz_tree_nodes.specs.pz_tree_standing.devices.Tallies.{one, own_summary}
 use Rattle.pz_tree_nodes.specs.declared.kept.Kept.{Kept}
-use Rattle.pz_tree_standing.specs.Soon.{IsSoon}
+use Rattle.pz_tree_nodes.specs.pz_tree_standing.Soon.{IsSoon}
 use Rattle.pz_tree_refreshing.specs.devices.Asked.{SaysItself, DelaySays, delay_summary, kept_of_send}
 
 not_over : (n : ℕ) → eqb (suc n) 0 ≡ false

@@ -1,17 +1,17 @@
 -- What the active children of a node add up to is what its term has, for any sort of sum.
 use Rattle.std.proofs.Common.{◌≡◌, ℕ, suc, ◌||◌, Bool, true, false, List, refl, ap, sym, ◌∙◌}
 use Rattle.pz_classes_code.specs.declared.slot.Slot.{Slot}
-use Rattle.pz_offer.specs.Summaries.{nothing, join}
-use Rattle.pz_offer.proofs.Joins.{join_left, join_right}
-use Rattle.pz_rules.specs.Settings.{Context}
-use Rattle.pz_rules.specs.Terms.{Step, Steps, Term, done, sequence, frame, abort, idle, handling, parallel, select, Terms, no_terms, and, term_at}
-use Rattle.pz_rules.specs.devices.Walk.{active_parts}
-use Rattle.pz_tree_standing.specs.Summaries.{summary_of, summaries_of}
-use Rattle.pz_tree_standing.specs.Woken.{begins, is_clocked, starts, clocked}
-use Rattle.pz_tree_standing.proofs.Tallies.{summary_sequence, summary_parallel, summary_select, summary_frame, summary_abort, summary_idle, summary_handling}
-use Rattle.pz_tree_standing.specs.Heads.{Head, inner_frame, formed}
-use Rattle.pz_tree_standing.specs.Heads as head
-use Rattle.pz_tree_standing.specs.Reached.{reaches}
+use Rattle.pz_tree_nodes.specs.pz_offer.Summaries.{nothing, join}
+use Rattle.pz_tree_nodes.proofs.pz_offer_proofs.Joins.{join_left, join_right}
+use Rattle.pz_tree_nodes.specs.pz_rules.Settings.{Context}
+use Rattle.pz_tree_nodes.specs.pz_rules.Terms.{Step, Steps, Term, done, sequence, frame, abort, idle, handling, parallel, select, Terms, no_terms, and, term_at}
+use Rattle.pz_tree_nodes.specs.pz_rules.devices.Walk.{active_parts}
+use Rattle.pz_tree_nodes.specs.pz_tree_standing.Summaries.{summary_of, summaries_of}
+use Rattle.pz_tree_nodes.specs.pz_tree_standing.Woken.{begins, is_clocked, starts, clocked}
+use Rattle.pz_tree_nodes.proofs.pz_tree_standing_proofs.Tallies.{summary_sequence, summary_parallel, summary_select, summary_frame, summary_abort, summary_idle, summary_handling}
+use Rattle.pz_tree_nodes.specs.pz_tree_standing.Heads.{Head, inner_frame, formed}
+use Rattle.pz_tree_nodes.specs.pz_tree_standing.Heads as head
+use Rattle.pz_tree_nodes.specs.pz_tree_standing.Reached.{reaches}
 use Rattle.pz_tree_nodes.specs.Keeping.{any_term}
 use Rattle.pz_tree_nodes.proofs.Wakings.{or_none, in_under, in_two, in_children}
 use Rattle.pz_tree_refreshing.specs.devices.Reached.{added, reached_sum}

@@ -2,8 +2,8 @@
 -- children of each.
 use Rattle.std.specs.Prelude.{◌+◌, if◌then◌else◌, ℕ, suc}
 use Rattle.pz_nodes_shapes.specs.Rose.{node, none, gone, more, present}
-use Rattle.pz_tree_standing.specs.Heads.{Head}
-use Rattle.pz_tree_standing.specs.Reached.{reaches}
+use Rattle.pz_tree_nodes.specs.pz_tree_standing.Heads.{Head}
+use Rattle.pz_tree_nodes.specs.pz_tree_standing.Reached.{reaches}
 use Rattle.pz_tree_nodes.specs.View.{Plant, Plants, head_view}
 
 abbrev mutual

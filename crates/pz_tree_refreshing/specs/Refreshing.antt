@@ -2,11 +2,11 @@
 use Rattle.std.specs.Prelude.{◌≡◌, ◌≤◌, ◌+◌, ◌*◌, ℕ, suc, true}
 use Rattle.pz_nodes_shapes.specs.Rose.{node, none, gone, more, Map, root, payload, has, Stands}
 use Rattle.pz_nodes_shapes.specs.Change.{Becomes}
-use Rattle.pz_rules.specs.Settings.{Context}
-use Rattle.pz_rules.specs.Short.{IsShort}
-use Rattle.pz_tree_standing.specs.Heads.{Head, inner_clock}
-use Rattle.pz_tree_standing.specs.Reached.{reaches}
-use Rattle.pz_tree_standing.specs.Soon.{HasRoom, IsSoon}
+use Rattle.pz_tree_nodes.specs.pz_rules.Settings.{Context}
+use Rattle.pz_tree_nodes.specs.pz_rules.Short.{IsShort}
+use Rattle.pz_tree_nodes.specs.pz_tree_standing.Heads.{Head, inner_clock}
+use Rattle.pz_tree_nodes.specs.pz_tree_standing.Reached.{reaches}
+use Rattle.pz_tree_nodes.specs.pz_tree_standing.Soon.{HasRoom, IsSoon}
 use Rattle.pz_tree_nodes.specs.declared.node.What.{What}
 use Rattle.pz_tree_nodes.specs.View.{Plant, Plants, head_view, term_in}
 use Rattle.pz_tree_nodes.specs.Tended.{Tended}

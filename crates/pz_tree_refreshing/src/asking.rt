@@ -1,27 +1,28 @@
 // What a node says when it is asked: what it adds by itself, and the clock behind its gate.
 
 ghost use Rattle.std.specs.Prelude.{◌≡◌, ◌<◌, ◌^◌, ℕ, IsTrue, IfOk, true};
-ghost use Rattle.pz_syntax.specs.Classes.{ModelTree};
+ghost use Rattle.pz_classes_code.specs.pz_syntax.Classes.{ModelTree};
 ghost use Rattle.pz_classes_code.specs.StepView.{view};
 ghost use Rattle.pz_clock.specs.Shifts.{IsReached, ShiftFits};
-ghost use Rattle.pz_eval.specs.Known.{AreKnown};
+ghost use Rattle.pz_part_queries.specs.pz_eval.Known.{AreKnown};
 ghost use Rattle.pz_part_queries.specs.Standpoints.{Knows, seen_from};
-ghost use Rattle.pz_tree_standing.specs.Asked.{statement_asks};
+ghost use Rattle.pz_tree_nodes.specs.pz_tree_standing.Asked.{statement_asks};
 ghost use Rattle.pz_tree_nodes.specs.Keeping.{kept_none};
 ghost use Rattle.pz_tree_nodes.specs.View.{head_view};
-ghost use Rattle.pz_tree_standing.specs.Soon.{HasRoom};
+ghost use Rattle.pz_tree_nodes.specs.pz_tree_standing.Soon.{HasRoom};
 ghost use Rattle.pz_tree_refreshing.specs.devices.Asked as device;
 ghost use Rattle.pz_tree_refreshing.specs.devices.Asked.{IsGated, IsAnswer, SaysItself, DelaySays, kept_of_send, AskRule};
 
 use crate::Spot;
+use pz_classes_code::pz_items::Shared;
+use pz_classes_code::pz_syntax::Pos;
 use pz_classes_code::{Code, Step, StepForm};
 use pz_clock::Shift;
 use pz_copy::Parcel;
-use pz_items::Shared;
 use pz_offer::{Summary, Trouble};
 use pz_part_queries::{Standpoint, ask_parcel, ask_test, ask_time};
 use pz_state::State;
-use pz_syntax::Pos;
+use pz_tree_nodes::pz_tree_standing::pz_rules;
 use pz_tree_nodes::{Head, Kept, What, names_clock, part_names_clock};
 use std::alloc::{AllocError, Global};
 

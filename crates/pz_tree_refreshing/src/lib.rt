@@ -6,5 +6,7 @@ mod refreshing;
 mod spot;
 
 pub use asking::ask;
+pub use pz_part_queries;
+pub use pz_tree_nodes;
 pub use refreshing::refresh;
 pub use spot::Spot;

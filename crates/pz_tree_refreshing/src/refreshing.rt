@@ -1,11 +1,11 @@
 //! Nodes are asked again, along those that hold something to ask.
 
 ghost use Rattle.std.specs.Prelude.{◌≡◌, ◌+◌, ◌*◌, ℕ, Some, None, IfOk, OnOk};
-ghost use Rattle.pz_syntax.specs.Classes.{ModelTree};
-ghost use Rattle.pz_eval.specs.Known.{AreKnown};
+ghost use Rattle.pz_classes_code.specs.pz_syntax.Classes.{ModelTree};
+ghost use Rattle.pz_part_queries.specs.pz_eval.Known.{AreKnown};
 ghost use Rattle.pz_nodes.specs.Arena.{find, Updates};
 ghost use Rattle.pz_part_queries.specs.Standpoints.{Knows, seen_from};
-ghost use Rattle.pz_tree_standing.specs.Heads.{inner_frame};
+ghost use Rattle.pz_tree_nodes.specs.pz_tree_standing.Heads.{inner_frame};
 ghost use Rattle.pz_tree_nodes.specs.View.{head_view};
 ghost use Rattle.pz_tree_refreshing.specs.Refreshing.{RefreshRule};
 ghost use Rattle.pz_tree_refreshing.specs.devices.Levels as levels;
@@ -18,7 +18,7 @@ use pz_part_queries::Standpoint;
 use pz_state::State;
 use pz_tree_nodes::{
     Head, Kept, Node, What, behind_inside, clock_inside, frame_inside, fuel_for, hollow, later,
-    put_back, reaches,
+    put_back, pz_tree_standing, reaches,
 };
 use std::alloc::{AllocError, Global};
 use std::sync::ledger::Ledger;

@@ -6,7 +6,7 @@ use Rattle.pz_nodes_shapes.specs.Rose as rose
 use Rattle.pz_clock.specs.Shifts.{ShiftView}
 use Rattle.pz_nodes_shapes.specs.Change.{Change, no_key, Holds, BecomesOption}
 use Rattle.pz_nodes_shapes.proofs.Frames.{then_becomes, taken_away}
-use Rattle.pz_state.specs.Marks.{Seen, changed}
+use Rattle.pz_rules.specs.pz_state.Marks.{Seen, changed}
 use Rattle.pz_classes_code.specs.declared.step.Step as lying
 use Rattle.pz_classes_code.specs.StepView as step
 use Rattle.pz_rules.specs.Terms.{Step, Term, done, parallel, abort, idle, Terms, no_terms, and, frames_in, frames_in_all, term_at}
@@ -15,9 +15,9 @@ use Rattle.pz_rules.specs.Opening.{opened_all}
 use Rattle.pz_rules.specs.Leaving as leaving
 use Rattle.pz_rules.specs.Leaving.{replaced, is_done, all_done, around}
 use Rattle.pz_rules.specs.Becoming.{Became}
-use Rattle.pz_tree_standing.specs.Heads as heads
-use Rattle.pz_tree_standing.specs.Heads.{inner_clock}
-use Rattle.pz_tree_standing.specs.Standing.{terms_of}
+use Rattle.pz_tree_nodes.specs.pz_tree_standing.Heads as heads
+use Rattle.pz_tree_nodes.specs.pz_tree_standing.Heads.{inner_clock}
+use Rattle.pz_tree_nodes.specs.pz_tree_standing.Standing.{terms_of}
 use Rattle.pz_tree_nodes.specs.declared.kept.Kept.{Kept}
 use Rattle.pz_tree_nodes.specs.declared.node.Head.TheVariants as kind
 use Rattle.pz_tree_nodes.specs.declared.node.What.{What}

@@ -6,9 +6,9 @@ use Rattle.pz_clock.specs.Shifts.{ShiftView}
 use Rattle.pz_nodes_shapes.specs.declared.node.Node.{Node}
 use Rattle.pz_nodes_shapes.specs.Rose.{node, none, gone, more, Map, root, roots, pick, joined, Stands, StandAll}
 use Rattle.pz_nodes_shapes.specs.Change.{Holds, BecomesOption}
-use Rattle.pz_state.specs.Marks.{Seen}
-use Rattle.pz_state.specs.declared.state.FrameId.{FrameId}
-use Rattle.pz_part_opening.specs.Bare.{is_bare}
+use Rattle.pz_rules.specs.pz_state.Marks.{Seen}
+use Rattle.pz_rules.specs.pz_state.declared.state.FrameId.{FrameId}
+use Rattle.pz_term_around.specs.pz_part_opening.Bare.{is_bare}
 use Rattle.pz_rules.specs.Terms.{Term, done, leaf, wait, sequence, parallel, select, guarded, frame, abort, idle, handling, Terms, term_at}
 use Rattle.pz_rules.specs.declared.term.Term.TheVariants as lying
 use Rattle.pz_rules.specs.declared.term.Term.TheFolds.{the_lemmas}
@@ -16,14 +16,14 @@ use Rattle.pz_rules.specs.View.{term_view}
 use Rattle.pz_rules.specs.Settings.{left_by, Home, Context}
 use Rattle.pz_rules.specs.Leaving.{replaced, is_done, around}
 use Rattle.pz_rules.specs.Becoming.{Became}
-use Rattle.pz_tree_standing.specs.Summaries.{summary_of}
-use Rattle.pz_tree_standing.proofs.Tallies.{summary_frame}
-use Rattle.pz_tree_standing.specs.FrameCounts.{gives_way}
-use Rattle.pz_tree_standing.specs.Heads as heads
-use Rattle.pz_tree_standing.specs.Heads.{Head, Shape, Shapes, inner_clock, inner_frame, formed}
-use Rattle.pz_tree_standing.specs.Standing.{term_of, terms_of}
-use Rattle.pz_tree_standing.specs.Resting.{Rests, RestAll}
-use Rattle.pz_tree_standing.specs.Whole.{IsNoShift, HasParts, Whole, AreWhole}
+use Rattle.pz_tree_nodes.specs.pz_tree_standing.Summaries.{summary_of}
+use Rattle.pz_tree_nodes.proofs.pz_tree_standing_proofs.Tallies.{summary_frame}
+use Rattle.pz_tree_nodes.specs.pz_tree_standing.FrameCounts.{gives_way}
+use Rattle.pz_tree_nodes.specs.pz_tree_standing.Heads as heads
+use Rattle.pz_tree_nodes.specs.pz_tree_standing.Heads.{Head, Shape, Shapes, inner_clock, inner_frame, formed}
+use Rattle.pz_tree_nodes.specs.pz_tree_standing.Standing.{term_of, terms_of}
+use Rattle.pz_tree_nodes.specs.pz_tree_standing.Resting.{Rests, RestAll}
+use Rattle.pz_tree_nodes.specs.pz_tree_standing.Whole.{IsNoShift, HasParts, Whole, AreWhole}
 use Rattle.pz_tree_nodes.specs.declared.kept.Kept.{Kept}
 use Rattle.pz_tree_nodes.specs.declared.node.Head.TheVariants as kind
 use Rattle.pz_tree_nodes.specs.declared.node.What.{What}

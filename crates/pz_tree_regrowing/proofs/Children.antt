@@ -3,9 +3,9 @@ use Rattle.std.proofs.Common.{◌≡◌, ◌+◌, ◌<◌, ℕ, zero, suc, refl,
 use Rattle.pz_nodes_shapes.specs.Rose.{none, gone, more, width}
 use Rattle.pz_rules.specs.Terms.{Terms, child, term_at, frame_in}
 use Rattle.pz_rules.specs.Terms as term
-use Rattle.pz_tree_standing.specs.Heads.{Head, leaf, wait, sequence, parallel, select, guarded, frame, abort, idle, handling, shifted, Shapes, inner_frame, formed}
-use Rattle.pz_tree_standing.specs.Standing.{terms_of}
-use Rattle.pz_tree_standing.specs.Whole.{IsNoShift, HasParts}
+use Rattle.pz_tree_nodes.specs.pz_tree_standing.Heads.{Head, leaf, wait, sequence, parallel, select, guarded, frame, abort, idle, handling, shifted, Shapes, inner_frame, formed}
+use Rattle.pz_tree_nodes.specs.pz_tree_standing.Standing.{terms_of}
+use Rattle.pz_tree_nodes.specs.pz_tree_standing.Whole.{IsNoShift, HasParts}
 
 past_the_last : (h : Head) (c i : ℕ) (ss : Shapes) (j : ℕ) → width ss < j + 1 → term_at (terms_of h c i ss) j ≡ term.done
 past_the_last h c i none j p = refl

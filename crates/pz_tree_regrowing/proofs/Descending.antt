@@ -5,19 +5,19 @@ use Rattle.std.proofs.lemmas.Bool.Decides.{nat_tests}
 use Rattle.pz_clock.specs.Shifts.{local}
 use Rattle.pz_nodes_shapes.specs.declared.node.Node.{Node}
 use Rattle.pz_nodes_shapes.specs.Rose.{node, none, gone, more, Map, root, roots, pick, Stands, StandAll}
-use Rattle.pz_offer.specs.PlaceOrder.{Place}
+use Rattle.pz_rules.specs.pz_offer.PlaceOrder.{Place}
 use Rattle.pz_rules.specs.Terms.{Term, done, child, frame_in, height}
 use Rattle.pz_rules.specs.Settings.{Home, left_by}
 use Rattle.pz_rules.specs.Places.{MayAct}
 use Rattle.pz_rules.specs.Leaving.{residual}
-use Rattle.pz_term_residual.specs.declared.outline.Outline.{Outline}
-use Rattle.pz_term_residual.specs.Capped.{capped}
-use Rattle.pz_term_residual.specs.Outlines.{outline, IsRound, IsLeft}
+use Rattle.pz_term_outlines.specs.declared.outline.Outline.{Outline}
+use Rattle.pz_term_outlines.specs.Capped.{capped}
+use Rattle.pz_term_outlines.specs.Outlines.{outline, IsRound, IsLeft}
 use Rattle.pz_tree_regrowing.specs.Heights.{LowRule, FewSteps}
-use Rattle.pz_tree_standing.specs.Heads as heads
-use Rattle.pz_tree_standing.specs.Heads.{inner_clock, formed}
-use Rattle.pz_tree_standing.specs.Standing.{terms_of}
-use Rattle.pz_tree_standing.specs.Whole.{IsNoShift, HasParts, OneInside, AreWhole}
+use Rattle.pz_tree_nodes.specs.pz_tree_standing.Heads as heads
+use Rattle.pz_tree_nodes.specs.pz_tree_standing.Heads.{inner_clock, formed}
+use Rattle.pz_tree_nodes.specs.pz_tree_standing.Standing.{terms_of}
+use Rattle.pz_tree_nodes.specs.pz_tree_standing.Whole.{IsNoShift, HasParts, OneInside, AreWhole}
 use Rattle.pz_tree_nodes.specs.declared.node.Head.{Head}
 use Rattle.pz_tree_nodes.specs.declared.node.Head.TheVariants as kind
 use Rattle.pz_tree_nodes.specs.declared.node.What.{What}

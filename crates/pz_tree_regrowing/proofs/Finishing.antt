@@ -5,15 +5,15 @@ use Rattle.pz_nodes_shapes.specs.Rose.{none, gone, more, Map, roots, pick, with_
 use Rattle.pz_nodes_shapes.specs.Rose as rose
 use Rattle.pz_nodes_shapes.specs.Change.{Holds}
 use Rattle.pz_nodes_shapes.proofs.Frames.{put_back}
-use Rattle.pz_state.specs.Marks.{Seen}
+use Rattle.pz_rules.specs.pz_state.Marks.{Seen}
 use Rattle.pz_rules.specs.Terms.{Term, done, frames_in_all, term_at}
 use Rattle.pz_rules.specs.Settings.{Process, left_by, Home}
 use Rattle.pz_rules.specs.Leaving.{replaced, is_done, around}
-use Rattle.pz_tree_standing.specs.FrameCounts.{lost, gained}
-use Rattle.pz_tree_standing.specs.Heads as heads
-use Rattle.pz_tree_standing.specs.Heads.{inner_clock, inner_frame, formed}
-use Rattle.pz_tree_standing.specs.Standing.{HeadFits}
-use Rattle.pz_tree_standing.specs.Whole.{HasParts, AreWhole}
+use Rattle.pz_tree_nodes.specs.pz_tree_standing.FrameCounts.{lost, gained}
+use Rattle.pz_tree_nodes.specs.pz_tree_standing.Heads as heads
+use Rattle.pz_tree_nodes.specs.pz_tree_standing.Heads.{inner_clock, inner_frame, formed}
+use Rattle.pz_tree_nodes.specs.pz_tree_standing.Standing.{HeadFits}
+use Rattle.pz_tree_nodes.specs.pz_tree_standing.Whole.{HasParts, AreWhole}
 use Rattle.pz_tree_nodes.specs.declared.kept.Kept.{Kept}
 use Rattle.pz_tree_nodes.specs.declared.node.Head.{Head}
 use Rattle.pz_tree_nodes.specs.declared.node.What.{What}

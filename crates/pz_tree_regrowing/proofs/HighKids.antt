@@ -3,9 +3,9 @@ use Rattle.std.proofs.Common.{◌≡◌, ◌≤◌, ℕ, zero, suc, length, fals
 use Rattle.pz_nodes_shapes.specs.Rose.{node, none, gone, more, Map, roots, pick, width, StandAll}
 use Rattle.pz_rules.specs.Terms.{Terms}
 use Rattle.pz_rules.specs.Leaving.{is_done}
-use Rattle.pz_tree_standing.specs.Heads.{Head, leaf, wait, sequence, parallel, select, guarded, frame, abort, idle, handling, shifted, Shapes, inner_clock, formed}
-use Rattle.pz_tree_standing.specs.Standing.{terms_of}
-use Rattle.pz_tree_standing.specs.Whole.{IsNoShift, HasParts, Whole, AreWhole}
+use Rattle.pz_tree_nodes.specs.pz_tree_standing.Heads.{Head, leaf, wait, sequence, parallel, select, guarded, frame, abort, idle, handling, shifted, Shapes, inner_clock, formed}
+use Rattle.pz_tree_nodes.specs.pz_tree_standing.Standing.{terms_of}
+use Rattle.pz_tree_nodes.specs.pz_tree_standing.Whole.{IsNoShift, HasParts, Whole, AreWhole}
 use Rattle.pz_tree_nodes.specs.declared.node.What.{What}
 use Rattle.pz_tree_nodes.specs.View.{Plant, Plants, head_view, shape_of, shapes_of, term_in}
 use Rattle.pz_tree_nodes.specs.Tended.{AreMarked}

@@ -3,18 +3,18 @@ use Rattle.std.proofs.Common.{◌≡◌, ◌≤◌, ◌<◌, ℕ, zero, suc, ◌
 use Rattle.std.specs.Prelude.{if◌then◌else◌, slice_index_or}
 use Rattle.pz_clock.specs.Shifts.{ShiftView}
 use Rattle.pz_nodes_shapes.specs.Rose.{Map}
-use Rattle.pz_state.specs.States.{StateView}
+use Rattle.pz_rules.specs.pz_state.States.{StateView}
 use Rattle.pz_classes_code.specs.declared.slot.Slot.{Slot}
 use Rattle.pz_rules.specs.Terms.{Term, Terms, Step, Steps, done, term_at, height, greatest_height}
 use Rattle.pz_rules.specs.Terms as term
 use Rattle.pz_rules.specs.Settings.{Home}
 use Rattle.pz_rules.specs.Places.{MayActIn}
 use Rattle.pz_rules.specs.Leaving.{all_done, replaced, handled}
-use Rattle.pz_term_residual.specs.declared.outline.Outline.{Outline}
-use Rattle.pz_term_residual.specs.Capped.{capped}
-use Rattle.pz_term_residual.specs.Outlines.{outline, IsAbove, IsRound}
-use Rattle.pz_tree_standing.specs.Heads.{Head, formed}
-use Rattle.pz_tree_standing.specs.Heads as heads
+use Rattle.pz_term_outlines.specs.declared.outline.Outline.{Outline}
+use Rattle.pz_term_outlines.specs.Capped.{capped}
+use Rattle.pz_term_outlines.specs.Outlines.{outline, IsAbove, IsRound}
+use Rattle.pz_tree_nodes.specs.pz_tree_standing.Heads.{Head, formed}
+use Rattle.pz_tree_nodes.specs.pz_tree_standing.Heads as heads
 use Rattle.pz_tree_nodes.specs.declared.node.What.{What}
 use Rattle.pz_tree_nodes.specs.View.{Plants}
 use Rattle.pz_tree_regrowing.specs.Costs.{beside}
@@ -142,7 +142,7 @@ module _ (m : Map What) (keys : List (Option ℕ)) (left result : Outline) (old 
   pub select_round : (home : Home) (i : ℕ) → result ≡ left → new ≡ old → HomeRoundRule home m heads.select keys i left result old new
   select_round home i is tick c ps k bare may = record { round = λ f s x same. is ∙ same; ticks = omega (arith, tick) }
 
-  pub guard_round : (home : Home) (test : term.Code) (at : Rattle.pz_syntax.specs.declared.tokens.Pos.Pos) (shift : ShiftView) (i : ℕ) → result ≡ left → new ≡ old → HomeRoundRule home m (heads.guarded test at shift) keys i left result old new
+  pub guard_round : (home : Home) (test : term.Code) (at : Rattle.pz_classes_code.specs.pz_syntax.declared.tokens.Pos.Pos) (shift : ShiftView) (i : ℕ) → result ≡ left → new ≡ old → HomeRoundRule home m (heads.guarded test at shift) keys i left result old new
   guard_round home test at shift i is tick c ps k bare may = record { round = λ f s x same. is ∙ same; ticks = omega (arith, tick) }
 
   pub by_head : (home : Home) (i : ℕ) (h k : Head) → h ≡ k → HomeRoundRule home m k keys i left result old new → HomeRoundRule home m h keys i left result old new

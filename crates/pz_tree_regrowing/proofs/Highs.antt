@@ -5,10 +5,10 @@ use Rattle.std.proofs.lemmas.List.{drop_more, drop_all, take-append-drop}
 use Rattle.pz_nodes_shapes.specs.Rose.{node, none, gone, more, Map, root, roots, pick, Stands, StandAll}
 use Rattle.pz_rules.specs.Terms.{Term, Terms, done, and, term_at, height, greatest_height}
 use Rattle.pz_rules.specs.Leaving.{is_done, all_done, replaced}
-use Rattle.pz_term_residual.specs.Capped.{capped}
-use Rattle.pz_tree_standing.specs.Heads.{Head, inner_clock}
-use Rattle.pz_tree_standing.specs.Standing.{terms_of}
-use Rattle.pz_tree_standing.specs.Whole.{AreWhole}
+use Rattle.pz_term_outlines.specs.Capped.{capped}
+use Rattle.pz_tree_nodes.specs.pz_tree_standing.Heads.{Head, inner_clock}
+use Rattle.pz_tree_nodes.specs.pz_tree_standing.Standing.{terms_of}
+use Rattle.pz_tree_nodes.specs.pz_tree_standing.Whole.{AreWhole}
 use Rattle.pz_tree_nodes.specs.declared.node.What.{What}
 use Rattle.pz_tree_nodes.specs.View.{Plant, Plants, shapes_of, term_in, term_in_option}
 use Rattle.pz_tree_nodes.specs.Tended.{Marked, AreMarked}

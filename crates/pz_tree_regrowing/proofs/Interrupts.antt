@@ -7,17 +7,17 @@ use Rattle.pz_nodes_shapes.specs.Change.{Holds, BecomesOption}
 use Rattle.pz_nodes_shapes.proofs.Frames.{worked, put_back}
 use Rattle.pz_classes_code.specs.declared.step.Step as lying
 use Rattle.pz_classes_code.specs.StepView as step
-use Rattle.pz_state.specs.Marks.{Seen, changed}
+use Rattle.pz_rules.specs.pz_state.Marks.{Seen, changed}
 use Rattle.pz_rules.specs.Terms.{Step, Term, done, idle, handling, frames_in, term_at, count}
 use Rattle.pz_rules.specs.Settings.{Process, left_by, Home}
 use Rattle.pz_rules.specs.Opening.{opened}
 use Rattle.pz_rules.specs.Leaving.{replaced, is_done, around, handled}
 use Rattle.pz_rules.specs.Becoming.{Became}
-use Rattle.pz_tree_standing.specs.FrameCounts.{lost, gained}
-use Rattle.pz_tree_standing.specs.Heads as heads
-use Rattle.pz_tree_standing.specs.Heads.{inner_clock, inner_frame}
-use Rattle.pz_tree_standing.specs.Standing.{HeadFits}
-use Rattle.pz_tree_standing.specs.Whole.{HasParts}
+use Rattle.pz_tree_nodes.specs.pz_tree_standing.FrameCounts.{lost, gained}
+use Rattle.pz_tree_nodes.specs.pz_tree_standing.Heads as heads
+use Rattle.pz_tree_nodes.specs.pz_tree_standing.Heads.{inner_clock, inner_frame}
+use Rattle.pz_tree_nodes.specs.pz_tree_standing.Standing.{HeadFits}
+use Rattle.pz_tree_nodes.specs.pz_tree_standing.Whole.{HasParts}
 use Rattle.pz_tree_nodes.specs.declared.kept.Kept.{Kept}
 use Rattle.pz_tree_nodes.specs.declared.node.Head.TheVariants as kind
 use Rattle.pz_tree_nodes.specs.declared.node.What.{What}
@@ -51,7 +51,7 @@ kids_of : (runs : Bool) (again : Step) (s : ShiftView) (f c : ℕ) (ps : Plants)
 kids_of true again s f c ps h = h
 kids_of false again s f c ps h = h
 
-around_of : (runs : Bool) (again : Step) (s : ShiftView) (home : Home) (f c : ℕ) (state : Rattle.pz_state.specs.States.StateView) (ps : Plants) (t : Term)
+around_of : (runs : Bool) (again : Step) (s : ShiftView) (home : Home) (f c : ℕ) (state : Rattle.pz_rules.specs.pz_state.States.StateView) (ps : Plants) (t : Term)
     → around home f state (before (interrupt runs again s) c ps 1 t) 1 (after (interrupt runs again s) c ps 1)
     ≡ handled home state (term_at (replaced (kid_terms (interrupt runs again s) c ps) 1 t) 0) again (after (interrupt runs again s) c ps 1)
 around_of true again s home f c state ps t = refl
@@ -61,12 +61,12 @@ lost_of : (runs : Bool) (again : Step) (s : ShiftView) (c : ℕ) (ps : Plants) (
 lost_of true again s c ps t = refl
 lost_of false again s c ps t = refl
 
-made_of : (runs : Bool) (again : Step) (s : ShiftView) (home : Home) (c : ℕ) (state : Rattle.pz_state.specs.States.StateView) (ps : Plants) (t : Term)
+made_of : (runs : Bool) (again : Step) (s : ShiftView) (home : Home) (c : ℕ) (state : Rattle.pz_rules.specs.pz_state.States.StateView) (ps : Plants) (t : Term)
     → made home state (before (interrupt runs again s) c ps 1 t) 1 (after (interrupt runs again s) c ps 1) ≡ if_done (after (interrupt runs again s) c ps 1) (nodes_of (opened home again state).term)
 made_of true again s home c state ps t = refl
 made_of false again s home c state ps t = refl
 
-gained_of : (runs : Bool) (again : Step) (s : ShiftView) (home : Home) (c : ℕ) (state : Rattle.pz_state.specs.States.StateView) (ps : Plants) (t : Term)
+gained_of : (runs : Bool) (again : Step) (s : ShiftView) (home : Home) (c : ℕ) (state : Rattle.pz_rules.specs.pz_state.States.StateView) (ps : Plants) (t : Term)
     → gained home state (before (interrupt runs again s) c ps 1 t) 1 (after (interrupt runs again s) c ps 1) ≡ (if is_done (after (interrupt runs again s) c ps 1) then frames_in (opened home again state).term else [])
 gained_of true again s home c state ps t = refl
 gained_of false again s home c state ps t = refl

@@ -6,11 +6,11 @@ use Rattle.pz_nodes_shapes.specs.Rose.{node, none, gone, more, Map, roots, pick,
 use Rattle.pz_nodes_shapes.specs.Rose as rose
 use Rattle.pz_rules.specs.Terms.{Term, done, Terms, no_terms, and, term_at, count}
 use Rattle.pz_rules.specs.Leaving.{replaced}
-use Rattle.pz_tree_standing.specs.Heads.{Head, leaf, wait, sequence, parallel, select, guarded, frame, abort, idle, handling, shifted, Shapes, inner_clock}
-use Rattle.pz_tree_standing.specs.Standing.{terms_of, term_of_option, FitAll}
-use Rattle.pz_tree_standing.specs.Resting.{RestAll}
-use Rattle.pz_tree_standing.specs.Whole.{IsNoShift, HasParts, AreWhole}
-use Rattle.pz_tree_standing.proofs.Kids.{with_kid_terms}
+use Rattle.pz_tree_nodes.specs.pz_tree_standing.Heads.{Head, leaf, wait, sequence, parallel, select, guarded, frame, abort, idle, handling, shifted, Shapes, inner_clock}
+use Rattle.pz_tree_nodes.specs.pz_tree_standing.Standing.{terms_of, term_of_option, FitAll}
+use Rattle.pz_tree_nodes.specs.pz_tree_standing.Resting.{RestAll}
+use Rattle.pz_tree_nodes.specs.pz_tree_standing.Whole.{IsNoShift, HasParts, AreWhole}
+use Rattle.pz_tree_nodes.proofs.pz_tree_standing_proofs.Kids.{with_kid_terms}
 use Rattle.pz_tree_nodes.specs.declared.node.What.{What}
 use Rattle.pz_tree_nodes.specs.View.{Plant, Plants, shape_of, shapes_of, term_in, term_in_option}
 use Rattle.pz_tree_nodes.specs.Tended.{Tended, TendedOption, AreMarked}

@@ -2,15 +2,15 @@
 use Rattle.std.proofs.Common.{◌≡◌, ℕ, Bool, true, false, List, [], ◌∷◌, refl, ap, sym}
 use Rattle.std.specs.Prelude.{if◌then◌else◌}
 use Rattle.pz_classes_code.specs.declared.slot.Slot.{Slot}
-use Rattle.pz_state.specs.States.{StateView}
-use Rattle.pz_state.specs.Marks.{Seen, changed}
-use Rattle.pz_part_opening.specs.Bare.{is_bare}
+use Rattle.pz_rules.specs.pz_state.States.{StateView}
+use Rattle.pz_rules.specs.pz_state.Marks.{Seen, changed}
+use Rattle.pz_term_around.specs.pz_part_opening.Bare.{is_bare}
 use Rattle.pz_rules.specs.Terms.{Step, Steps, Term, done, leaf, wait, sequence, parallel, select, guarded, frame, abort, idle, handling, Terms}
 use Rattle.pz_rules.specs.Settings.{Process, left_by, Home}
 use Rattle.pz_rules.specs.Framing.{framed}
 use Rattle.pz_rules.specs.Leaving.{is_done, all_done, joined, around, aborted, interrupted, handled}
 use Rattle.pz_rules.specs.Becoming.{Became}
-use Rattle.pz_tree_standing.specs.FrameCounts.{gives_way}
+use Rattle.pz_tree_nodes.specs.pz_tree_standing.FrameCounts.{gives_way}
 
 -- where the state stays
 pub in_place : (p : Process) (t : Term) (s : Seen) → p ≡ left_by s.held t → Became p t s s

@@ -19,3 +19,4 @@ mod HighKids
 mod Highs
 mod HighRounds
 mod Descending
+pub use Rattle.pz_tree_nodes.proofs.pz_tree_standing_proofs as pz_tree_standing_proofs

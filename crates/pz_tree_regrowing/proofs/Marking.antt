@@ -5,12 +5,12 @@ use Rattle.pz_nodes_shapes.specs.Rose.{node, none, gone, more}
 use Rattle.pz_rules.specs.Terms.{Step, Steps, Term, done, sequence, frame, abort, idle, handling, term_at, greatest_height}
 use Rattle.pz_rules.specs.Settings.{Context}
 use Rattle.pz_rules.specs.devices.Walk.{active_parts}
-use Rattle.pz_tree_standing.specs.Asked.{asks, any_asks}
-use Rattle.pz_tree_standing.specs.Woken.{begins, is_clocked, starts, clocked}
-use Rattle.pz_tree_standing.proofs.Unasked.{or_neither}
-use Rattle.pz_tree_standing.specs.Heads as heads
-use Rattle.pz_tree_standing.specs.Heads.{Head, inner_clock, formed}
-use Rattle.pz_tree_standing.specs.Standing.{terms_of}
+use Rattle.pz_tree_nodes.specs.pz_tree_standing.Asked.{asks, any_asks}
+use Rattle.pz_tree_nodes.specs.pz_tree_standing.Woken.{begins, is_clocked, starts, clocked}
+use Rattle.pz_tree_nodes.proofs.pz_tree_standing_proofs.Unasked.{or_neither}
+use Rattle.pz_tree_nodes.specs.pz_tree_standing.Heads as heads
+use Rattle.pz_tree_nodes.specs.pz_tree_standing.Heads.{Head, inner_clock, formed}
+use Rattle.pz_tree_nodes.specs.pz_tree_standing.Standing.{terms_of}
 use Rattle.pz_tree_nodes.specs.declared.kept.Kept.{Kept}
 use Rattle.pz_tree_nodes.specs.Keeping.{HasFlags, IsMarked, any_term, kept_done, joined, raised}
 use Rattle.pz_tree_nodes.specs.View.{Plants, shapes_of}

@@ -1,12 +1,12 @@
 -- What opens has no delay that has begun.
 use Rattle.std.proofs.Common.{ℕ, zero, suc, [], ◌∷◌, Option, Some, None}
-use Rattle.pz_syntax.specs.Expressions as expression
-use Rattle.pz_syntax.specs.Statements as statement
-use Rattle.pz_syntax.specs.Statements.{Branches, no_branches, branch, no_statements, then}
-use Rattle.pz_value.specs.declared.value.ClassId.{ClassId}
+use Rattle.pz_classes_code.specs.pz_syntax.Expressions as expression
+use Rattle.pz_classes_code.specs.pz_syntax.Statements as statement
+use Rattle.pz_classes_code.specs.pz_syntax.Statements.{Branches, no_branches, branch, no_statements, then}
+use Rattle.pz_classes_code.specs.pz_value.declared.value.ClassId.{ClassId}
 use Rattle.pz_classes_code.specs.declared.slot.Slot.{Slot}
-use Rattle.pz_classes.specs.Bodies.{BodyTree, data_body, process_body}
-use Rattle.pz_state.specs.States.{StateView, opened as with_frame}
+use Rattle.pz_rules.specs.pz_classes_rules.Bodies.{BodyTree, data_body, process_body}
+use Rattle.pz_rules.specs.pz_state.States.{StateView, opened as with_frame}
 use Rattle.pz_rules.specs.declared.limits.Edition.{Edition}
 use Rattle.pz_rules.specs.declared.limits.Edition.TheVariants.{One, Two}
 use Rattle.pz_rules.specs.Terms.{Step, Steps, Term, done, leaf, wait, sequence, parallel, select, guarded, frame, abort, idle, handling}

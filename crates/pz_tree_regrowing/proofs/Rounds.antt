@@ -7,18 +7,18 @@ use Rattle.pz_nodes_shapes.specs.Rose.{node, none, gone, more, Map, root, roots,
 use Rattle.pz_nodes_shapes.specs.Change.{Holds}
 use Rattle.pz_nodes_shapes.specs.Dropping as plain
 use Rattle.pz_nodes_shapes.proofs.Frames.{pick_stands, kids_change, then_becomes, taken_in_hand, worked, touched}
-use Rattle.pz_offer.specs.PlaceOrder.{Place}
-use Rattle.pz_state.specs.Marks.{Seen, changed}
+use Rattle.pz_rules.specs.pz_offer.PlaceOrder.{Place}
+use Rattle.pz_rules.specs.pz_state.Marks.{Seen, changed}
 use Rattle.pz_rules.specs.Terms.{Step, Term, done, leaf, wait, sequence, parallel, select, guarded, frame, abort, idle, handling, Terms, no_terms, and, term_at, child, frame_in, count}
 use Rattle.pz_rules.specs.Settings.{Process, left_by, Home}
 use Rattle.pz_rules.specs.Leaving.{replaced, around, residual}
 use Rattle.pz_rules.specs.Places.{MayActIn, MayAct}
 use Rattle.pz_rules.specs.Becoming.{Became}
-use Rattle.pz_tree_standing.specs.FrameCounts.{lost, lost_all, gained, gained_all}
-use Rattle.pz_tree_standing.specs.Heads as heads
-use Rattle.pz_tree_standing.specs.Heads.{inner_clock, inner_frame, formed}
-use Rattle.pz_tree_standing.specs.Standing.{terms_of, HeadFits}
-use Rattle.pz_tree_standing.specs.Whole.{IsNoShift, HasParts, OneInside}
+use Rattle.pz_tree_nodes.specs.pz_tree_standing.FrameCounts.{lost, lost_all, gained, gained_all}
+use Rattle.pz_tree_nodes.specs.pz_tree_standing.Heads as heads
+use Rattle.pz_tree_nodes.specs.pz_tree_standing.Heads.{inner_clock, inner_frame, formed}
+use Rattle.pz_tree_nodes.specs.pz_tree_standing.Standing.{terms_of, HeadFits}
+use Rattle.pz_tree_nodes.specs.pz_tree_standing.Whole.{IsNoShift, HasParts, OneInside}
 use Rattle.pz_tree_nodes.specs.declared.node.Head.{Head}
 use Rattle.pz_tree_nodes.specs.declared.node.What.{What}
 use Rattle.pz_tree_nodes.specs.View.{Plant, Plants, head_view, shapes_of, term_in, term_in_option}

@@ -6,10 +6,10 @@ use Rattle.pz_nodes_shapes.specs.Rose.{node, none, gone, more, Map, root, roots,
 use Rattle.pz_nodes_shapes.specs.Change.{Holds, BecomesOption}
 use Rattle.pz_nodes_shapes.proofs.Frames.{taken_in_hand, worked, put_back, taken_away}
 use Rattle.pz_rules.specs.Settings.{left_by}
-use Rattle.pz_tree_standing.specs.Heads as heads
-use Rattle.pz_tree_standing.specs.Heads.{inner_frame}
-use Rattle.pz_tree_standing.specs.Standing.{HeadFits}
-use Rattle.pz_tree_standing.specs.Whole.{IsNoShift, HasParts, OneInside}
+use Rattle.pz_tree_nodes.specs.pz_tree_standing.Heads as heads
+use Rattle.pz_tree_nodes.specs.pz_tree_standing.Heads.{inner_frame}
+use Rattle.pz_tree_nodes.specs.pz_tree_standing.Standing.{HeadFits}
+use Rattle.pz_tree_nodes.specs.pz_tree_standing.Whole.{IsNoShift, HasParts, OneInside}
 use Rattle.pz_tree_nodes.specs.declared.kept.Kept.{Kept}
 use Rattle.pz_tree_nodes.specs.declared.node.Head.TheVariants as kind
 use Rattle.pz_tree_nodes.specs.declared.node.What.{What}
@@ -17,7 +17,7 @@ use Rattle.pz_tree_nodes.specs.View.{Plant, Plants, head_view, shapes_of, term_i
 use Rattle.pz_tree_nodes.specs.Tended.{Tended, TendedOption}
 use Rattle.pz_tree_nodes.specs.Planting.{root_of}
 use Rattle.pz_rules.specs.Short.{IsShort}
-use Rattle.pz_tree_standing.specs.Soon.{HasRoom}
+use Rattle.pz_tree_nodes.specs.pz_tree_standing.Soon.{HasRoom}
 use Rattle.pz_tree_regrowing.specs.devices.Keeping.{kept_in, kept_of_node, kept_behind}
 use Rattle.pz_tree_regrowing.specs.devices.Levels.{KidsTended, IsFree, IsShiftAt, IsNoShiftAt, runs_behind, IsPutOver, ShiftRule, StillRule, after}
 use Rattle.pz_tree_regrowing.proofs.LocalClocks.{thawed_within, thawed_local, runs_as}
@@ -118,7 +118,7 @@ two_shifts m0 m m1 n was f c k behind by both below out j w s (more (node i z us
     let total : both ≡ behind + s.behind = sum (omega (arith, b, room, le)) ∙ ap (λ z. behind + z) b in
     let clock : local s (c - behind) ≡ c - both = shows ∙ (let o : (c - behind) - s.behind ≡ c - both = omega (arith, total) in o) in
     let same : term_in (c - both) q ≡ term_in (c - behind) (node j w (more q none)) =
-    ap (λ z. term_in z q) (sym clock) ∙ sym (ap (λ h. heads.formed h (c - behind) (Rattle.pz_tree_standing.specs.Standing.terms_of h (c - behind) 0 (shapes_of (more q none)))) is) in
+    ap (λ z. term_in z q) (sym clock) ∙ sym (ap (λ h. heads.formed h (c - behind) (Rattle.pz_tree_nodes.specs.pz_tree_standing.Standing.terms_of h (c - behind) 0 (shapes_of (more q none)))) is) in
     let o = put_over m0 m1 n was f c k both q below out held (sym e) (omega (arith, total, room, le)) (subst (λ z. Tended f z q) clock kids.0) parts has_room (subst IsShort (sym same) short) put in
     (o.0, o.1, o.2, o.3, o.4 ∙ same)
 
@@ -144,7 +144,7 @@ shift_left m m1 n k kid behind c by both left below out old mid last new e shift
 
 -- ------------------------------------------------------------ a guard that acts
 
-pub guard_acts : (c k i : ℕ) (test : Rattle.pz_rules.specs.Terms.Code) (at : Rattle.pz_syntax.specs.declared.tokens.Pos.Pos) (shift : ShiftView) (keys : List (Option ℕ)) (left out : Option ℕ) (m n : Map What) (behind old new : ℕ)
+pub guard_acts : (c k i : ℕ) (test : Rattle.pz_rules.specs.Terms.Code) (at : Rattle.pz_classes_code.specs.pz_syntax.declared.tokens.Pos.Pos) (shift : ShiftView) (keys : List (Option ℕ)) (left out : Option ℕ) (m n : Map What) (behind old new : ℕ)
     → (ShiftFits shift c → behind ≡ behind_since shift.behind shift.since c) → left ≡ slice_index_or keys 0 None → ShiftRule m n k behind c left out old new
     → StillRule c k (heads.guarded test at shift) keys i out m n old new
 guard_acts c k i test at shift keys left out m n behind old new is_behind is_left rule home f s g fresh m0 was ps t hand e w may time =

@@ -1,14 +1,14 @@
 -- Delays that have begun have less than 2^64 clock units left: they are over in time where there is room for as much
 -- on the clock, and what is around an action leaves them.
 use Rattle.std.proofs.Common.{ℕ, [], ◌∷◌, arith}
-use Rattle.pz_state.specs.States.{StateView}
+use Rattle.pz_rules.specs.pz_state.States.{StateView}
 use Rattle.pz_rules.specs.Terms.{Term, done, leaf, wait, sequence, parallel, select, guarded, frame, abort, idle, handling, Terms, no_terms, and}
 use Rattle.pz_rules.specs.Settings.{Home, left_by}
 use Rattle.pz_rules.specs.Leaving.{around}
 use Rattle.pz_rules.specs.Short.{IsShort, AreShort}
 use Rattle.pz_rules.proofs.Opened.{residual_short}
 use Rattle.pz_tree_nodes.specs.Planting.{EndsInTime, EndInTime}
-use Rattle.pz_tree_standing.specs.Soon.{HasRoom}
+use Rattle.pz_tree_nodes.specs.pz_tree_standing.Soon.{HasRoom}
 
 -- ---------------------------------------------------------- they end in time
 

@@ -3,9 +3,9 @@ use Rattle.std.proofs.Common.{◌≡◌, ℕ, suc, ◌+◌, ◌*◌, ◌≤◌, 
 use Rattle.pz_nodes_shapes.specs.Rose.{node, none, gone, more, width, size, sizes}
 use Rattle.pz_rules.specs.Terms.{term_at}
 use Rattle.pz_tree_nodes.specs.Planting.{nodes_of, nodes_of_all}
-use Rattle.pz_tree_standing.specs.Heads.{Head, leaf, wait, sequence, parallel, select, guarded, frame, abort, idle, handling, shifted, Shape, Shapes, inner_clock, formed}
-use Rattle.pz_tree_standing.specs.Standing.{term_of, terms_of}
-use Rattle.pz_tree_standing.specs.Whole.{IsNoShift, HasParts, Whole, AreWhole}
+use Rattle.pz_tree_nodes.specs.pz_tree_standing.Heads.{Head, leaf, wait, sequence, parallel, select, guarded, frame, abort, idle, handling, shifted, Shape, Shapes, inner_clock, formed}
+use Rattle.pz_tree_nodes.specs.pz_tree_standing.Standing.{term_of, terms_of}
+use Rattle.pz_tree_nodes.specs.pz_tree_standing.Whole.{IsNoShift, HasParts, Whole, AreWhole}
 use Rattle.pz_tree_nodes.specs.View.{Plant, Plants, shape_of, shapes_of, term_in}
 
 -- a node that is no shift node has one to spare, for a shift node over it

@@ -2,32 +2,32 @@
 use Rattle.std.proofs.Common.{◌≡◌, ◌+◌, ◌-◌, ◌^◌, ℕ, zero, suc, min, false, Option, Some, None, refl, ap, sym, ◌∙◌, subst, arith}
 use Rattle.std.specs.Prelude.{option_map}
 use Rattle.pz_nodes_shapes.specs.Rose.{node, none, gone, more}
-use Rattle.pz_offer.specs.declared.summary.Summary.{Summary}
-use Rattle.pz_offer.specs.Summaries.{nothing, join}
-use Rattle.pz_offer.specs.Summaries as summaries
+use Rattle.pz_rules.specs.pz_offer.declared.summary.Summary.{Summary}
+use Rattle.pz_rules.specs.pz_offer.Summaries.{nothing, join}
+use Rattle.pz_rules.specs.pz_offer.Summaries as summaries
 use Rattle.pz_rules.specs.Terms.{Terms, term_at}
 use Rattle.pz_rules.specs.Settings.{Context}
 use Rattle.pz_rules.specs.Leaving.{is_done}
-use Rattle.pz_tree_standing.specs.Asked.{asks}
-use Rattle.pz_tree_standing.specs.Summaries.{summary_of}
-use Rattle.pz_tree_standing.proofs.Unasked.{or_neither, unasked_is_steady}
-use Rattle.pz_tree_standing.specs.Heads.{Head, leaf, wait, sequence, parallel, select, guarded, frame, abort, idle, handling, shifted, Shapes, inner_clock, inner_frame, formed}
-use Rattle.pz_tree_standing.specs.Heads as heads
-use Rattle.pz_tree_standing.specs.Standing.{terms_of, HeadFits}
-use Rattle.pz_tree_standing.specs.Resting.{RestAll}
-use Rattle.pz_tree_standing.specs.Whole.{IsNoShift, HasParts, Whole}
-use Rattle.pz_tree_standing.specs.devices.Written as written
-use Rattle.pz_tree_standing.specs.devices.Written.{node_summary}
-use Rattle.pz_tree_standing.proofs.Resting.{rests_are_right}
-use Rattle.pz_tree_standing.proofs.Written.{summary_formed}
+use Rattle.pz_tree_nodes.specs.pz_tree_standing.Asked.{asks}
+use Rattle.pz_tree_nodes.specs.pz_tree_standing.Summaries.{summary_of}
+use Rattle.pz_tree_nodes.proofs.pz_tree_standing_proofs.Unasked.{or_neither, unasked_is_steady}
+use Rattle.pz_tree_nodes.specs.pz_tree_standing.Heads.{Head, leaf, wait, sequence, parallel, select, guarded, frame, abort, idle, handling, shifted, Shapes, inner_clock, inner_frame, formed}
+use Rattle.pz_tree_nodes.specs.pz_tree_standing.Heads as heads
+use Rattle.pz_tree_nodes.specs.pz_tree_standing.Standing.{terms_of, HeadFits}
+use Rattle.pz_tree_nodes.specs.pz_tree_standing.Resting.{RestAll}
+use Rattle.pz_tree_nodes.specs.pz_tree_standing.Whole.{IsNoShift, HasParts, Whole}
+use Rattle.pz_tree_nodes.specs.pz_tree_standing.devices.Written as written
+use Rattle.pz_tree_nodes.specs.pz_tree_standing.devices.Written.{node_summary}
+use Rattle.pz_tree_nodes.proofs.pz_tree_standing_proofs.Resting.{rests_are_right}
+use Rattle.pz_tree_nodes.proofs.pz_tree_standing_proofs.Written.{summary_formed}
 use Rattle.pz_tree_nodes.specs.declared.node.What.{What}
 use Rattle.pz_tree_nodes.specs.View.{Plant, Plants, head_view, shape_of, shapes_of, term_in}
 use Rattle.pz_tree_nodes.specs.Tended.{Tended}
 use Rattle.pz_tree_nodes.specs.Keeping.{IsMarked}
 use Rattle.pz_tree_nodes.proofs.Marks.{marked_alike}
 use Rattle.pz_rules.specs.Short.{IsShort}
-use Rattle.pz_tree_standing.specs.Soon.{HasRoom, IsSoon}
-use Rattle.pz_tree_standing.proofs.Soon.{short_soon, clock_back}
+use Rattle.pz_tree_nodes.specs.pz_tree_standing.Soon.{HasRoom, IsSoon}
+use Rattle.pz_tree_nodes.proofs.pz_tree_standing_proofs.Soon.{short_soon, clock_back}
 use Rattle.pz_tree_regrowing.specs.devices.Keeping.{moved, kept_at, kept_all, kept_formed, IsPutBack}
 use Rattle.pz_tree_regrowing.specs.devices.Levels.{KidsTended, kid_terms}
 use Rattle.pz_tree_regrowing.proofs.Kids.{kids_whole, kids_marked, kids_fit, kids_rest}

@@ -1,7 +1,7 @@
 -- How many parts of a term an action passes, makes and drops.
 use Rattle.std.specs.Prelude.{ℕ, zero, suc, ◌+◌, [], ◌∷◌, if◌then◌else◌}
-use Rattle.pz_state.specs.States.{StateView}
-use Rattle.pz_offer.specs.PlaceOrder.{Place}
+use Rattle.pz_rules.specs.pz_state.States.{StateView}
+use Rattle.pz_rules.specs.pz_offer.PlaceOrder.{Place}
 use Rattle.pz_rules.specs.Terms.{Term, done, sequence, parallel, select, abort, idle, handling, Terms, no_terms, and, child, frame_in}
 use Rattle.pz_rules.specs.Settings.{Process, Home}
 use Rattle.pz_rules.specs.Opening.{opened, opened_all}

@@ -1,8 +1,8 @@
 -- How high a term becomes once a part of it has become another, by the nodes that stand for it.
 use Rattle.std.specs.Prelude.{◌≡◌, ◌≤◌, ◌+◌, ◌*◌, ℕ, Bool, nat_le, Option}
 use Rattle.pz_nodes_shapes.specs.Rose.{Map}
-use Rattle.pz_offer.specs.PlaceOrder.{Place}
-use Rattle.pz_state.specs.States.{StateView}
+use Rattle.pz_rules.specs.pz_offer.PlaceOrder.{Place}
+use Rattle.pz_rules.specs.pz_state.States.{StateView}
 use Rattle.pz_rules.specs.Terms.{Term, height}
 use Rattle.pz_rules.specs.Settings.{left_by, Home}
 use Rattle.pz_rules.specs.Leaving.{residual}

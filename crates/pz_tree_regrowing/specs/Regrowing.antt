@@ -1,7 +1,7 @@
 -- What becomes of the nodes of a term once a part of it has become another.
 use Rattle.std.specs.Prelude.{◌≡◌, ◌≤◌, ◌+◌, ◌*◌, ℕ, List, ◌++◌, Option, Some, None}
-use Rattle.pz_state.specs.Marks.{Seen}
-use Rattle.pz_offer.specs.PlaceOrder.{Place}
+use Rattle.pz_rules.specs.pz_state.Marks.{Seen}
+use Rattle.pz_rules.specs.pz_offer.PlaceOrder.{Place}
 use Rattle.pz_nodes_shapes.specs.Rose.{Map, has_option, Stands}
 use Rattle.pz_nodes_shapes.specs.Change.{BecomesOption}
 use Rattle.pz_rules.specs.Terms.{Term}
@@ -9,13 +9,13 @@ use Rattle.pz_rules.specs.Settings.{left_by, Home}
 use Rattle.pz_rules.specs.Leaving.{residual}
 use Rattle.pz_rules.specs.Places.{MayAct}
 use Rattle.pz_rules.specs.Becoming.{Became}
-use Rattle.pz_tree_standing.specs.FrameCounts.{lost_all, gained_all}
+use Rattle.pz_tree_nodes.specs.pz_tree_standing.FrameCounts.{lost_all, gained_all}
 use Rattle.pz_tree_nodes.specs.declared.node.What.{What}
 use Rattle.pz_tree_nodes.specs.View.{Plant, term_in_option}
 use Rattle.pz_tree_nodes.specs.Tended.{TendedOption}
 use Rattle.pz_tree_nodes.specs.Planting.{root_of}
 use Rattle.pz_rules.specs.Short.{IsShort}
-use Rattle.pz_tree_standing.specs.Soon.{HasRoom}
+use Rattle.pz_tree_nodes.specs.pz_tree_standing.Soon.{HasRoom}
 use Rattle.pz_tree_regrowing.specs.Costs.{on_way, made_all, dropped_all}
 
 -- what a call works on: the nodes, the state, the frames that stand no longer and those that have opened, and the steps

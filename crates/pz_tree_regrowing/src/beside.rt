@@ -3,12 +3,12 @@
 ghost use Rattle.std.specs.Prelude.{◌≡◌, ◌&&◌};
 ghost use Rattle.pz_nodes.specs.Arena.{find};
 ghost use Rattle.pz_tree_regrowing.specs.devices.Levels.{are_gone};
-ghost use Rattle.pz_tree_standing.specs.Heads.{parallel};
+ghost use Rattle.pz_tree_nodes.specs.pz_tree_standing.Heads.{parallel};
 ghost use Rattle.pz_tree_regrowing.specs.devices.Outlining.{RoundRule};
 
 use crate::reading::{all_gone, greatest_under};
 use pz_nodes::{Key, Nodes, Steps};
-use pz_term_residual::{Outline, outline_above, outline_done};
+use pz_term_outlines::{Outline, outline_above, outline_done};
 use pz_tree_nodes::Node;
 use std::sync::ledger::Ledger;
 

@@ -3,8 +3,8 @@
 
 ghost use Rattle.std.specs.Prelude.{◌≡◌, ◌≤◌, None};
 ghost use Rattle.pz_clock.specs.Shifts.{local, behind_since, frozen, thawed, ShiftFits};
-ghost use Rattle.pz_tree_standing.specs.Heads.{first_only, inner_clock};
-ghost use Rattle.pz_tree_standing.specs.Standing.{HeadFits};
+ghost use Rattle.pz_tree_nodes.specs.pz_tree_standing.Heads.{first_only, inner_clock};
+ghost use Rattle.pz_tree_nodes.specs.pz_tree_standing.Standing.{HeadFits};
 ghost use Rattle.pz_tree_nodes.specs.View.{head_view};
 
 use pz_clock::Shift;

@@ -4,9 +4,9 @@
 ghost use Rattle.std.specs.Prelude.{◌≡◌, ◌≤◌, ◌+◌, ◌∷◌, [], ℕ, Some, None, IfOk};
 ghost use Rattle.pz_nodes.specs.Arena.{find};
 ghost use Rattle.pz_classes_code.specs.StepView.{view, sequence_view};
-ghost use Rattle.pz_part_opening.specs.Homes.{home_view};
+ghost use Rattle.pz_term_around.specs.pz_part_opening.Homes.{home_view};
 ghost use Rattle.pz_tree_nodes.specs.Dropping.{numbers};
-ghost use Rattle.pz_tree_standing.specs.Heads as heads;
+ghost use Rattle.pz_tree_nodes.specs.pz_tree_standing.Heads as heads;
 ghost use Rattle.pz_tree_regrowing.specs.Regrowing.{at_work};
 ghost use Rattle.pz_tree_regrowing.specs.devices.Levels.{FinishRule, StillRule, LosingRule, ChangingRule, AloneRule, ResumeRule, SuspendRule, SecondRule, are_gone};
 
@@ -15,13 +15,13 @@ use crate::keeping::{abort_kept, handling_kept, idle_kept, parallel_kept, sequen
 use crate::nodes::{kept_of, kept_of_all, kid_in, release, write};
 use crate::opening::plant_opened;
 use pz_classes_code::Step;
+use pz_classes_code::pz_items::Shared;
 use pz_clock::Shift;
-use pz_items::Shared;
 use pz_nodes::{Key, Nodes, Steps};
 use pz_nodes_shapes::Kids;
-use pz_part_opening::{Home, open_rest, open_step};
 use pz_rules::Rest;
-use pz_state::{FrameId, State};
+use pz_rules::pz_state::{FrameId, State};
+use pz_term_around::pz_part_opening::{Home, open_rest, open_step};
 use pz_tree_nodes::{Head, Node, drop_parts};
 use std::alloc::{AllocError, Global};
 use std::sync::ledger::Ledger;

@@ -7,7 +7,7 @@ ghost use Rattle.pz_tree_nodes.specs.devices.Leaves.{second_alone};
 ghost use Rattle.pz_tree_regrowing.specs.devices.Keeping as keeping;
 ghost use Rattle.pz_tree_regrowing.specs.devices.Keeping.{kept_behind};
 
-use pz_offer::Summary;
+use pz_rules::pz_offer::Summary;
 use pz_tree_nodes::Kept;
 use std::alloc::AllocError;
 

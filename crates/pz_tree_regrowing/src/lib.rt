@@ -15,4 +15,5 @@ mod regrowing;
 mod shifts;
 
 pub use outlining::stays_low;
+pub use pz_tree_nodes;
 pub use regrowing::regrow;

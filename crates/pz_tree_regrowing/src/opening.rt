@@ -8,7 +8,7 @@ ghost use Rattle.pz_tree_nodes.specs.Planting.{nodes_of, EndsInTime, Planted};
 
 use pz_nodes::{Key, Nodes, Steps};
 use pz_rules::Term;
-use pz_term_residual::list_frames;
+use pz_term_frames::list_frames;
 use pz_tree_nodes::{Node, plant};
 use std::alloc::{AllocError, Global};
 use std::sync::ledger::Ledger;

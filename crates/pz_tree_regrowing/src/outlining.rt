@@ -2,13 +2,13 @@
 
 ghost use Rattle.std.specs.Prelude.{◌≡◌};
 ghost use Rattle.pz_nodes.specs.Arena.{find};
-ghost use Rattle.pz_part_opening.specs.Homes.{home_view};
+ghost use Rattle.pz_term_around.specs.pz_part_opening.Homes.{home_view};
 ghost use Rattle.pz_rules.specs.View.{term_view};
 ghost use Rattle.pz_tree_nodes.specs.View.{head_view};
 ghost use Rattle.pz_tree_regrowing.specs.Heights.{LowRule, FewSteps};
 ghost use Rattle.pz_clock.specs.Shifts.{ShiftView};
 ghost use Rattle.pz_classes_code.specs.StepView.{view};
-ghost use Rattle.pz_tree_standing.specs.Heads.{abort, idle};
+ghost use Rattle.pz_tree_nodes.specs.pz_tree_standing.Heads.{abort, idle};
 ghost use Rattle.pz_tree_regrowing.specs.devices.Outlining.{RoundRule, HomeRoundRule, SecondRule, OutlineRule, BareOutlineRule};
 
 use crate::beside::outline_parallel;
@@ -16,9 +16,9 @@ use crate::reading::{height_under, kid_in, past_shift};
 use pz_classes_code::Step;
 use pz_nodes::{Key, Nodes, Steps};
 use pz_nodes_shapes::Kids;
-use pz_part_opening::Home;
 use pz_rules::Term;
-use pz_term_residual::{
+use pz_term_around::pz_part_opening::Home;
+use pz_term_outlines::{
     Outline, outline_first, outline_frame, outline_of, outline_second, outline_sequence,
 };
 use pz_tree_nodes::{Head, Node};

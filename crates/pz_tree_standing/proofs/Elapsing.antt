@@ -1,6 +1,6 @@
 -- As time passes the same frames stand.
 use Rattle.std.proofs.Common.{◌≡◌, ℕ, ◌∷◌, ◌++◌, refl, ap, ◌∙◌}
-use Rattle.pz_state.specs.States.{StateView}
+use Rattle.pz_rules.specs.pz_state.States.{StateView}
 use Rattle.pz_rules.specs.Terms.{Term, Terms, frames_in, frames_in_all}
 use Rattle.pz_rules.specs.Settings.{Context}
 use Rattle.pz_rules.specs.Delays as delays

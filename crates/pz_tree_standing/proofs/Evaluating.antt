@@ -1,29 +1,29 @@
 -- No evaluation opens or closes a frame.
 use Rattle.std.proofs.Common.{◌≡◌, ℕ, Bool, true, false, List, [], ◌∷◌, length, Option, Some, None, refl, ap, ◌∙◌, subst}
 use Rattle.std.specs.Prelude.{if◌then◌else◌, nat_eq, nat_lt, ◌^◌, pos, map}
-use Rattle.pz_syntax.specs.declared.tokens.Pos.{Pos}
-use Rattle.pz_syntax.specs.declared.tokens.Symbol.{Symbol}
-use Rattle.pz_syntax.specs.declared.names.Id.{Id}
-use Rattle.pz_syntax.specs.Expressions.{Links, Sendings}
-use Rattle.pz_syntax.specs.Classes.{ModelTree}
-use Rattle.pz_value.specs.declared.value.ClassId.{ClassId}
-use Rattle.pz_value.specs.declared.value.Value.{Value}
-use Rattle.pz_value.specs.declared.value.Value.TheVariants.{Nil, Bool as Boolean, Int, Char, Str, Ref}
-use Rattle.pz_classes_code.specs.declared.slot.Slot.{Slot}
-use Rattle.pz_classes_code.specs.declared.slot.Slot.TheVariants.{Local, Shared, Unknown}
-use Rattle.pz_classes_code.specs.CodeView.{Tree}
-use Rattle.pz_state.specs.declared.fault.FaultKind.TheVariants.{StoreFull, ClockTooLarge}
-use Rattle.pz_state.specs.States.{StateView, Frames, at_frame, made, object, object_limit}
+use Rattle.pz_rules.specs.pz_syntax.declared.tokens.Pos.{Pos}
+use Rattle.pz_rules.specs.pz_syntax.declared.tokens.Symbol.{Symbol}
+use Rattle.pz_rules.specs.pz_syntax.declared.names.Id.{Id}
+use Rattle.pz_rules.specs.pz_syntax.Expressions.{Links, Sendings}
+use Rattle.pz_rules.specs.pz_syntax.Classes.{ModelTree}
+use Rattle.pz_rules.specs.pz_value.declared.value.ClassId.{ClassId}
+use Rattle.pz_rules.specs.pz_value.declared.value.Value.{Value}
+use Rattle.pz_rules.specs.pz_value.declared.value.Value.TheVariants.{Nil, Bool as Boolean, Int, Char, Str, Ref}
+use Rattle.pz_rules.specs.pz_classes_code.declared.slot.Slot.{Slot}
+use Rattle.pz_rules.specs.pz_classes_code.declared.slot.Slot.TheVariants.{Local, Shared, Unknown}
+use Rattle.pz_rules.specs.pz_classes_code.CodeView.{Tree}
+use Rattle.pz_rules.specs.pz_state.declared.fault.FaultKind.TheVariants.{StoreFull, ClockTooLarge}
+use Rattle.pz_rules.specs.pz_state.States.{StateView, Frames, at_frame, made, object, object_limit}
 use Rattle.pz_prims.specs.declared.answer.Prim.{Prim}
 use Rattle.pz_prims.specs.declared.answer.Prim.TheVariants as prim
 use Rattle.pz_prims.specs.Table.{outcome}
-use Rattle.pz_classes.specs.Members.{fields}
-use Rattle.pz_eval_rules.specs.Memories.{Memory, Location, in_process, in_object, with_state, write}
-use Rattle.pz_eval_rules.specs.Answers.{Stop, ends, fault, Answer, gives, stops, ended, ended_list}
-use Rattle.pz_eval_rules.specs.Steps.{Codes, spelling, told, applied, applied_alone, Reply, answers, runs, method_reply, data_method, class_reply, reply_by, reply}
-use Rattle.pz_eval_rules.specs.Evaluation.{Evaluates, a_constant, a_variable, itself, the_time, a_new, in_brackets, a_chain, a_chain_stops, some_sends, some_sends_stop, a_unary, a_unary_stops, an_assignment, an_assignment_stops, a_return, a_return_stops, an_if, an_if_wrong, an_if_stops, a_while, InSequence, no_more, one_more, one_stops, Arguments, no_argument, an_argument, an_argument_stops, Operators, no_operator, an_operator, an_operator_wrong, an_operand_stops, Selectors, no_selector, an_answer, an_answer_wrong, a_method, a_method_wrong, arguments_stop, Turns, a_turn, a_turn_stops, over, a_test_wrong, a_test_stops}
-use Rattle.pz_eval_rules.specs.Outcomes.{Finds, a_value, a_fault, too_much, FindsAll, all_values, one_fault, all_too_much}
-use Rattle.pz_eval_rules.specs.Outcomes as outcomes
+use Rattle.pz_rules.specs.pz_classes_rules.Members.{fields}
+use Rattle.pz_rules.specs.pz_eval_rules.Memories.{Memory, Location, in_process, in_object, with_state, write}
+use Rattle.pz_rules.specs.pz_eval_rules.Answers.{Stop, ends, fault, Answer, gives, stops, ended, ended_list}
+use Rattle.pz_rules.specs.pz_eval_rules.Steps.{Codes, spelling, told, applied, applied_alone, Reply, answers, runs, method_reply, data_method, class_reply, reply_by, reply}
+use Rattle.pz_rules.specs.pz_eval_rules.Evaluation.{Evaluates, a_constant, a_variable, itself, the_time, a_new, in_brackets, a_chain, a_chain_stops, some_sends, some_sends_stop, a_unary, a_unary_stops, an_assignment, an_assignment_stops, a_return, a_return_stops, an_if, an_if_wrong, an_if_stops, a_while, InSequence, no_more, one_more, one_stops, Arguments, no_argument, an_argument, an_argument_stops, Operators, no_operator, an_operator, an_operator_wrong, an_operand_stops, Selectors, no_selector, an_answer, an_answer_wrong, a_method, a_method_wrong, arguments_stop, Turns, a_turn, a_turn_stops, over, a_test_wrong, a_test_stops}
+use Rattle.pz_rules.specs.pz_eval_rules.Outcomes.{Finds, a_value, a_fault, too_much, FindsAll, all_values, one_fault, all_too_much}
+use Rattle.pz_rules.specs.pz_eval_rules.Outcomes as outcomes
 use Rattle.pz_tree_standing.specs.Frames.{numbers}
 use Rattle.pz_tree_standing.proofs.Primitives.{outcome_same}
 
@@ -183,13 +183,13 @@ list_keeps m (gives xs o) ys n h e = subst (Keeps (List Value) m) e h
 list_keeps m (stops (ends y o)) ys n h e = subst (Keeps (List Value) m) e h
 list_keeps m (stops (fault kind at)) ys n h e = absurd cc
 
-pub finds_same : {model : ModelTree} {now frame : ℕ} {s : StateView} {t : Tree} {allowed : Rattle.pz_eval_rules.specs.declared.allowance.Allowance.Allowance} {o : Rattle.pz_eval_rules.specs.declared.outcome.Outcome.Outcome} {left : StateView}
+pub finds_same : {model : ModelTree} {now frame : ℕ} {s : StateView} {t : Tree} {allowed : Rattle.pz_rules.specs.pz_eval_rules.declared.allowance.Allowance.Allowance} {o : Rattle.pz_rules.specs.pz_eval_rules.declared.outcome.Outcome.Outcome} {left : StateView}
     → Finds model now frame s t allowed o left → numbers left ≡ numbers s
 finds_same {s = s} (a_value {a = a} {m = m} w e) = subst (Keeps Value (outcomes.outside s)) e (ended_keeps [] (outcomes.outside s) a (evaluates_keeps w.derivation))
 finds_same (a_fault w) = refl
 finds_same (too_much none) = refl
 
-pub finds_all_same : {model : ModelTree} {now frame : ℕ} {s : StateView} {ts : Codes} {allowed : Rattle.pz_eval_rules.specs.declared.allowance.Allowance.Allowance} {o : Rattle.pz_eval_rules.specs.declared.outcome.Listed.Listed} {left : StateView}
+pub finds_all_same : {model : ModelTree} {now frame : ℕ} {s : StateView} {ts : Codes} {allowed : Rattle.pz_rules.specs.pz_eval_rules.declared.allowance.Allowance.Allowance} {o : Rattle.pz_rules.specs.pz_eval_rules.declared.outcome.Listed.Listed} {left : StateView}
     → FindsAll model now frame s ts allowed o left → numbers left ≡ numbers s
 finds_all_same {s = s} (all_values {a = a} {ys = ys} {m = m} w e) = list_keeps (outcomes.outside s) a ys m (arguments_keep w.derivation) e
 finds_all_same (one_fault w) = refl

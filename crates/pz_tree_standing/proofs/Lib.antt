@@ -24,3 +24,5 @@ mod Sweeping
 mod Numbered
 mod Starting
 mod Elapsing
+pub use Rattle.pz_rules.proofs as pz_rules_proofs
+pub use Rattle.pz_rules.proofs.pz_offer_proofs as pz_offer_proofs

@@ -1,6 +1,6 @@
 -- As time passes, what fits its clock goes on to fit it, and what rests goes on to rest.
 use Rattle.std.proofs.Common.{◌≡◌, ℕ, zero, suc, ◌+◌, ◌<◌, ◌⊎◌, inl, inr, true, ◌||◌, refl, ap, sym, ◌∙◌, subst, arith}
-use Rattle.pz_eval_rules.specs.Clocks.{DataIsTimeless}
+use Rattle.pz_rules.specs.pz_eval_rules.Clocks.{DataIsTimeless}
 use Rattle.pz_clock.specs.Shifts.{is_running}
 use Rattle.pz_clock.specs.Laws.{FitsOnward}
 use Rattle.pz_nodes_shapes.specs.Rose.{node, none, gone, more, width}

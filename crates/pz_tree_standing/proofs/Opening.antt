@@ -1,15 +1,15 @@
 -- What opens stands in frames that have opened.
 use Rattle.std.proofs.Common.{◌≡◌, ◌≤◌, ◌+◌, ℕ, zero, suc, Bool, true, false, eqb, List, [], ◌∷◌, ◌++◌, Option, Some, None, refl, sym, ap, ◌∙◌, arith}
 use Rattle.std.specs.Prelude.{if◌then◌else◌, nat_lt, map}
-use Rattle.pz_syntax.specs.Expressions as expression
-use Rattle.pz_syntax.specs.Statements as statement
-use Rattle.pz_syntax.specs.Statements.{Branches, no_branches, branch, no_statements, then}
-use Rattle.pz_value.specs.declared.value.ClassId.{ClassId}
-use Rattle.pz_value.specs.declared.value.Value.{Value}
-use Rattle.pz_classes_code.specs.declared.slot.Slot.{Slot}
-use Rattle.pz_classes.specs.Bodies.{BodyTree, data_body, process_body}
-use Rattle.pz_state.specs.States.{StateView, Frames, with_frame, nils}
-use Rattle.pz_state.specs.States as states
+use Rattle.pz_rules.specs.pz_syntax.Expressions as expression
+use Rattle.pz_rules.specs.pz_syntax.Statements as statement
+use Rattle.pz_rules.specs.pz_syntax.Statements.{Branches, no_branches, branch, no_statements, then}
+use Rattle.pz_rules.specs.pz_value.declared.value.ClassId.{ClassId}
+use Rattle.pz_rules.specs.pz_value.declared.value.Value.{Value}
+use Rattle.pz_rules.specs.pz_classes_code.declared.slot.Slot.{Slot}
+use Rattle.pz_rules.specs.pz_classes_rules.Bodies.{BodyTree, data_body, process_body}
+use Rattle.pz_rules.specs.pz_state.States.{StateView, Frames, with_frame, nils}
+use Rattle.pz_rules.specs.pz_state.States as states
 use Rattle.pz_rules.specs.declared.limits.Edition.{Edition}
 use Rattle.pz_rules.specs.declared.limits.Edition.TheVariants.{One, Two}
 use Rattle.pz_rules.specs.Terms.{Step, Steps, Term, done, leaf, wait, sequence, parallel, select, guarded, frame, abort, idle, handling, frames_in, frames_in_all}

@@ -1,7 +1,7 @@
 -- Time passes: the same shape, its clock so much later, stands for what the passing leaves.
 use Rattle.std.proofs.Common.{◌≡◌, ℕ, zero, suc, ◌+◌, ◌-◌, Bool, true, false, Option, Some, None, Result, Ok, Err, refl, ap, sym, ◌∙◌, subst, arith}
-use Rattle.pz_syntax.specs.Statements as statement
-use Rattle.pz_offer.specs.declared.trouble.Trouble.{Trouble}
+use Rattle.pz_rules.specs.pz_syntax.Statements as statement
+use Rattle.pz_rules.specs.pz_offer.declared.trouble.Trouble.{Trouble}
 use Rattle.pz_clock.specs.Shifts.{ShiftView, is_running, local, local_since, ShiftFits, FitsSince}
 use Rattle.pz_nodes_shapes.specs.Rose.{node, none, gone, more}
 use Rattle.pz_rules.specs.Terms.{Step, Term, Terms, no_terms, and, term_at}

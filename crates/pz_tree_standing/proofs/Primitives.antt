@@ -2,10 +2,10 @@
 use Rattle.std.proofs.Common.{◌≡◌, ℕ, zero, suc, Bool, true, false, List, [], ◌∷◌, length, Option, Some, None, Ok, Err, refl}
 use Rattle.std.specs.Prelude.{if◌then◌else◌, pos, negsuc, nat_le, bytes_eq, option_map, codes}
 use Rattle.std.specs.Option.{option_map_or}
-use Rattle.pz_value.specs.declared.value.Value.{Value}
-use Rattle.pz_value.specs.declared.value.Value.TheVariants as value
-use Rattle.pz_value.specs.declared.value.Value.TheVariants.{Ref}
-use Rattle.pz_state.specs.States.{StateView, object}
+use Rattle.pz_rules.specs.pz_value.declared.value.Value.{Value}
+use Rattle.pz_rules.specs.pz_value.declared.value.Value.TheVariants as value
+use Rattle.pz_rules.specs.pz_value.declared.value.Value.TheVariants.{Ref}
+use Rattle.pz_rules.specs.pz_state.States.{StateView, object}
 use Rattle.pz_prims.specs.Rows.{Answer, answered}
 use Rattle.pz_prims.specs.EveryValue.{every_value}
 use Rattle.pz_prims.specs.Integers.{of_integer}
@@ -22,7 +22,7 @@ Good s (Some (Err fault)) = Unit {0}
 resize_good : (s : StateView) (r : ℕ) (v : Value) → Good s (Some (of_integer (resize s r) v))
 resize_good s r (value.Int (pos size)) = by (nat_le size Rattle.pz_prims.specs.Arrays.array_limit)
   where
-    by : (b : Bool) → Good s (Some (if b then Ok (record { value = Ref r; state = Rattle.pz_state.specs.States.resized s r size }) else Err Rattle.pz_state.specs.declared.fault.FaultKind.TheVariants.Index))
+    by : (b : Bool) → Good s (Some (if b then Ok (record { value = Ref r; state = Rattle.pz_rules.specs.pz_state.States.resized s r size }) else Err Rattle.pz_rules.specs.pz_state.declared.fault.FaultKind.TheVariants.Index))
     by true = refl
     by false = tt
 resize_good s r (value.Int (negsuc n)) = tt
@@ -35,7 +35,7 @@ resize_good s r (value.Ref o) = tt
 item_good : (s : StateView) (r : ℕ) (v : Value) → Good s (Some (of_integer (item_at s r) v))
 item_good s r (value.Int place) = by (at_place (object s r).items place)
   where
-    by : (o : Option Value) → Good s (Some (option_map_or (λ item. Ok (record { value = item; state = s })) o (Err Rattle.pz_state.specs.declared.fault.FaultKind.TheVariants.Index)))
+    by : (o : Option Value) → Good s (Some (option_map_or (λ item. Ok (record { value = item; state = s })) o (Err Rattle.pz_rules.specs.pz_state.declared.fault.FaultKind.TheVariants.Index)))
     by (Some item) = refl
     by None = tt
 item_good s r value.Nil = tt
@@ -48,7 +48,7 @@ put_good : (s : StateView) (r : ℕ) (place new : Value) → Good s (Some (of_in
 put_good s r (value.Int (pos zero)) new = tt
 put_good s r (value.Int (pos (suc before))) new = by (nat_le (suc before) (length (object s r).items))
   where
-    by : (b : Bool) → Good s (Some (if b then Ok (record { value = Ref r; state = Rattle.pz_state.specs.States.set_item s r before new }) else Err Rattle.pz_state.specs.declared.fault.FaultKind.TheVariants.Index))
+    by : (b : Bool) → Good s (Some (if b then Ok (record { value = Ref r; state = Rattle.pz_rules.specs.pz_state.States.set_item s r before new }) else Err Rattle.pz_rules.specs.pz_state.declared.fault.FaultKind.TheVariants.Index))
     by true = refl
     by false = tt
 put_good s r (value.Int (negsuc n)) new = tt

@@ -1,8 +1,8 @@
 -- The children that a node reaches are those that the rules say go on with the term.
 use Rattle.std.proofs.Common.{◌≡◌, ◌<◌, ℕ, zero, suc, true, Ok, refl, ap, sym, ◌∙◌, subst, arith}
-use Rattle.pz_syntax.specs.declared.tokens.Pos.{Pos}
-use Rattle.pz_eval_rules.specs.devices.Laws.{ComputedIsFound}
-use Rattle.pz_eval_rules.specs.devices.Outcomes.{outcome_of}
+use Rattle.pz_rules.specs.pz_syntax.declared.tokens.Pos.{Pos}
+use Rattle.pz_rules.specs.pz_eval_rules.devices.Laws.{ComputedIsFound}
+use Rattle.pz_rules.specs.pz_eval_rules.devices.Outcomes.{outcome_of}
 use Rattle.pz_clock.specs.Shifts.{is_running}
 use Rattle.pz_nodes_shapes.specs.Rose.{none, gone, more, width}
 use Rattle.pz_rules.specs.Terms.{Code, count}

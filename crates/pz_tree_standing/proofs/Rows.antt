@@ -1,22 +1,22 @@
 -- Worked shapes: what they stand for and what is right, which the checker works out.
 use Rattle.std.proofs.Common.{◌≡◌, ℕ, pos, [], ◌∷◌, Some, None, refl, arith}
-use Rattle.pz_syntax.specs.declared.tokens.Pos.{Pos}
-use Rattle.pz_syntax.specs.declared.tokens.Symbol.TheVariants.{Greater}
-use Rattle.pz_syntax.specs.declared.exprs.Literal.TheVariants as literal
-use Rattle.pz_syntax.specs.Expressions.{variable, chain, link, no_links}
-use Rattle.pz_syntax.specs.Expressions as expression
-use Rattle.pz_syntax.specs.Statements.{skip}
-use Rattle.pz_value.specs.declared.value.Value.{Value}
-use Rattle.pz_value.specs.declared.value.Value.TheVariants as value
-use Rattle.pz_classes_code.specs.declared.slot.Slot.TheVariants.{Shared}
+use Rattle.pz_rules.specs.pz_syntax.declared.tokens.Pos.{Pos}
+use Rattle.pz_rules.specs.pz_syntax.declared.tokens.Symbol.TheVariants.{Greater}
+use Rattle.pz_rules.specs.pz_syntax.declared.exprs.Literal.TheVariants as literal
+use Rattle.pz_rules.specs.pz_syntax.Expressions.{variable, chain, link, no_links}
+use Rattle.pz_rules.specs.pz_syntax.Expressions as expression
+use Rattle.pz_rules.specs.pz_syntax.Statements.{skip}
+use Rattle.pz_rules.specs.pz_value.declared.value.Value.{Value}
+use Rattle.pz_rules.specs.pz_value.declared.value.Value.TheVariants as value
+use Rattle.pz_rules.specs.pz_classes_code.declared.slot.Slot.TheVariants.{Shared}
 use Rattle.pz_prims.specs.Rows.{answered}
 use Rattle.pz_prims.specs.EveryValue.{every_value}
 use Rattle.pz_prims.specs.Integers.{integers}
 use Rattle.pz_prims.specs.Booleans.{booleans}
 use Rattle.pz_prims.specs.Table.{outcome}
-use Rattle.pz_offer.specs.declared.summary.Summary.{Summary}
-use Rattle.pz_offer.specs.Summaries.{nothing}
-use Rattle.pz_eval_rules.specs.devices.Computed.{sequence, arguments, operators, replied, selectors, going, turns, step, evaluated}
+use Rattle.pz_rules.specs.pz_offer.declared.summary.Summary.{Summary}
+use Rattle.pz_rules.specs.pz_offer.Summaries.{nothing}
+use Rattle.pz_rules.specs.pz_eval_rules.devices.Computed.{sequence, arguments, operators, replied, selectors, going, turns, step, evaluated}
 use Rattle.pz_clock.specs.Shifts.{ShiftView}
 use Rattle.pz_nodes_shapes.specs.Rose.{node, none, gone, more}
 use Rattle.pz_rules.specs.Terms.{Code, Step, Term, done, no_terms, and}

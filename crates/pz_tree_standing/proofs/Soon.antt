@@ -1,8 +1,8 @@
 -- What is due of a term is due soon, where delays are short.
 use Rattle.std.proofs.Common.{◌≡◌, ◌<◌, ◌+◌, ◌^◌, ℕ, zero, suc, true, false, Option, Some, None, refl, ap, sym, ◌∙◌, subst, arith}
-use Rattle.pz_syntax.specs.Statements as statement
+use Rattle.pz_rules.specs.pz_syntax.Statements as statement
 use Rattle.pz_clock.specs.Shifts.{ShiftView, is_running, local_since, FitsSince}
-use Rattle.pz_offer.specs.Summaries.{least, shifted}
+use Rattle.pz_rules.specs.pz_offer.Summaries.{least, shifted}
 use Rattle.pz_rules.specs.Settings.{Context}
 use Rattle.pz_rules.specs.Terms.{Step, Term, done, leaf, wait, sequence, parallel, select, guarded, frame, abort, idle, handling, Terms, no_terms, and, term_at}
 use Rattle.pz_rules.specs.Short.{IsShort, AreShort}

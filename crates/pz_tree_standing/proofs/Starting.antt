@@ -1,9 +1,9 @@
 -- A process that begins has just the frames open that stand in it.
 use Rattle.std.proofs.Common.{◌≡◌, ◌≤◌, ◌+◌, ℕ, List, sym, subst, arith}
 use Rattle.pz_bind_levels.specs.Places.{Address}
-use Rattle.pz_bind.specs.Values.{values_at}
-use Rattle.pz_value.specs.declared.value.Value.{Value}
-use Rattle.pz_state.specs.States.{initial}
+use Rattle.pz_rules.specs.pz_bind_rules.Values.{values_at}
+use Rattle.pz_rules.specs.pz_value.declared.value.Value.{Value}
+use Rattle.pz_rules.specs.pz_state.States.{initial}
 use Rattle.pz_rules.specs.declared.limits.Edition.{Edition}
 use Rattle.pz_rules.specs.declared.limits.Edition.TheVariants.{One, Two}
 use Rattle.pz_rules.specs.Terms.{Step}

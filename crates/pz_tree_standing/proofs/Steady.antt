@@ -1,15 +1,15 @@
 -- As time passes, a term that is steady keeps its summary.
 use Rattle.std.proofs.Common.{◌≡◌, ℕ, zero, suc, ◌+◌, ◌-◌, ◌<◌, ◌≤◌, Bool, true, false, Some, None, Result, Ok, Err, refl, ap, sym, ◌∙◌, arith}
-use Rattle.pz_syntax.specs.declared.tokens.Pos.{Pos}
-use Rattle.pz_syntax.specs.Expressions.{Part, left_out, written}
-use Rattle.pz_syntax.specs.Statements as statement
-use Rattle.pz_value.specs.declared.value.ClassId.{ClassId}
-use Rattle.pz_classes_code.specs.declared.slot.Slot.{Slot}
-use Rattle.pz_offer.specs.declared.trouble.Trouble.{Trouble}
-use Rattle.pz_offer.specs.Summaries.{join}
-use Rattle.pz_eval_rules.specs.Clocks.{names_clock, part_names_clock, DataIsTimeless}
-use Rattle.pz_eval_rules.specs.devices.Laws.{UnclockedIsComputedTheSame, UnclockedListIsComputedTheSame}
-use Rattle.pz_eval_rules.specs.devices.Outcomes.{outcome_of, listed_of, state_after}
+use Rattle.pz_rules.specs.pz_syntax.declared.tokens.Pos.{Pos}
+use Rattle.pz_rules.specs.pz_syntax.Expressions.{Part, left_out, written}
+use Rattle.pz_rules.specs.pz_syntax.Statements as statement
+use Rattle.pz_rules.specs.pz_value.declared.value.ClassId.{ClassId}
+use Rattle.pz_rules.specs.pz_classes_code.declared.slot.Slot.{Slot}
+use Rattle.pz_rules.specs.pz_offer.declared.trouble.Trouble.{Trouble}
+use Rattle.pz_rules.specs.pz_offer.Summaries.{join}
+use Rattle.pz_rules.specs.pz_eval_rules.Clocks.{names_clock, part_names_clock, DataIsTimeless}
+use Rattle.pz_rules.specs.pz_eval_rules.devices.Laws.{UnclockedIsComputedTheSame, UnclockedListIsComputedTheSame}
+use Rattle.pz_rules.specs.pz_eval_rules.devices.Outcomes.{outcome_of, listed_of, state_after}
 use Rattle.pz_rules.specs.Terms.{Code, Step, Term, done, leaf, wait, sequence, parallel, select, guarded, frame, abort, idle, handling, Terms, no_terms, and}
 use Rattle.pz_rules.specs.Settings.{Context}
 use Rattle.pz_rules.specs.Meanings.{and_then, truth}

@@ -1,7 +1,7 @@
 -- As time passes, a shape of which nothing changes its answers stays right, with no node touched.
 use Rattle.std.proofs.Common.{◌≡◌, ℕ, zero, suc, ◌+◌, Bool, true, false, Result, Ok, Err, refl, ap, sym, ◌∙◌, subst, arith}
-use Rattle.pz_eval_rules.specs.Clocks.{DataIsTimeless}
-use Rattle.pz_offer.specs.declared.trouble.Trouble.{Trouble}
+use Rattle.pz_rules.specs.pz_eval_rules.Clocks.{DataIsTimeless}
+use Rattle.pz_rules.specs.pz_offer.declared.trouble.Trouble.{Trouble}
 use Rattle.pz_clock.specs.Shifts.{is_running}
 use Rattle.pz_nodes_shapes.specs.Rose.{node, none, gone, more}
 use Rattle.pz_rules.specs.Terms.{Terms, no_terms, and, term_at}

@@ -1,24 +1,24 @@
 -- Worked terms: their summaries, which the checker works out.
 use Rattle.std.proofs.Common.{◌≡◌, ℕ, pos, negsuc, true, false, [], ◌∷◌, Some, None, refl}
-use Rattle.pz_syntax.specs.declared.tokens.Pos.{Pos}
-use Rattle.pz_syntax.specs.declared.tokens.Symbol.TheVariants.{Greater}
-use Rattle.pz_syntax.specs.declared.names.Id.{Id}
-use Rattle.pz_syntax.specs.declared.exprs.Literal.TheVariants as literal
-use Rattle.pz_syntax.specs.Expressions.{variable, chain, none, more, left_out, written, link, no_links}
-use Rattle.pz_syntax.specs.Expressions as expression
-use Rattle.pz_syntax.specs.Statements.{skip, delay, send, receive}
-use Rattle.pz_value.specs.declared.value.Value.{Value}
-use Rattle.pz_value.specs.declared.value.Value.TheVariants as value
-use Rattle.pz_classes_code.specs.declared.slot.Slot.TheVariants.{Shared}
-use Rattle.pz_state.specs.declared.fault.FaultKind.TheVariants.{NotUnderstood, NegativeDelay}
+use Rattle.pz_rules.specs.pz_syntax.declared.tokens.Pos.{Pos}
+use Rattle.pz_rules.specs.pz_syntax.declared.tokens.Symbol.TheVariants.{Greater}
+use Rattle.pz_rules.specs.pz_syntax.declared.names.Id.{Id}
+use Rattle.pz_rules.specs.pz_syntax.declared.exprs.Literal.TheVariants as literal
+use Rattle.pz_rules.specs.pz_syntax.Expressions.{variable, chain, none, more, left_out, written, link, no_links}
+use Rattle.pz_rules.specs.pz_syntax.Expressions as expression
+use Rattle.pz_rules.specs.pz_syntax.Statements.{skip, delay, send, receive}
+use Rattle.pz_rules.specs.pz_value.declared.value.Value.{Value}
+use Rattle.pz_rules.specs.pz_value.declared.value.Value.TheVariants as value
+use Rattle.pz_rules.specs.pz_classes_code.declared.slot.Slot.TheVariants.{Shared}
+use Rattle.pz_rules.specs.pz_state.declared.fault.FaultKind.TheVariants.{NotUnderstood, NegativeDelay}
 use Rattle.pz_prims.specs.Rows.{answered}
 use Rattle.pz_prims.specs.EveryValue.{every_value}
 use Rattle.pz_prims.specs.Integers.{integers}
 use Rattle.pz_prims.specs.Booleans.{booleans}
 use Rattle.pz_prims.specs.Table.{outcome}
-use Rattle.pz_offer.specs.declared.trouble.Trouble.TheVariants.{Fault}
-use Rattle.pz_offer.specs.Summaries.{nothing, shifted}
-use Rattle.pz_eval_rules.specs.devices.Computed.{sequence, arguments, operators, replied, selectors, going, turns, step, evaluated}
+use Rattle.pz_rules.specs.pz_offer.declared.trouble.Trouble.TheVariants.{Fault}
+use Rattle.pz_rules.specs.pz_offer.Summaries.{nothing, shifted}
+use Rattle.pz_rules.specs.pz_eval_rules.devices.Computed.{sequence, arguments, operators, replied, selectors, going, turns, step, evaluated}
 use Rattle.pz_rules.specs.Terms.{Code, Step, Term, done, leaf, wait, parallel, select, guarded, abort, idle, handling, no_terms, and}
 use Rattle.pz_rules.specs.declared.limits.Edition.TheVariants.{One}
 use Rattle.pz_rules.specs.Settings.{Context}

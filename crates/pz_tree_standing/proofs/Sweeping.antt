@@ -3,7 +3,7 @@ use Rattle.std.proofs.Common.{◌≡◌, ◌≤◌, ◌+◌, ℕ, Bool, true, fa
 use Rattle.std.specs.Prelude.{if◌then◌else◌}
 use Rattle.std.proofs.lemmas.Bool.{eqb-true}
 use Rattle.std.specs.List.{list_any, filter}
-use Rattle.pz_state.specs.States.{StateView, Frames}
+use Rattle.pz_rules.specs.pz_state.States.{StateView, Frames}
 use Rattle.pz_rules.specs.Terms.{Term, frames_in}
 use Rattle.pz_rules.specs.Leaving.{only_frames}
 use Rattle.pz_tree_standing.specs.FrameCounts.{count_in, times}

@@ -3,12 +3,12 @@ use Rattle.std.proofs.Common.{◌≡◌, ℕ, suc, ◌+◌, min, Bool, true, fal
 use Rattle.std.specs.Prelude.{option_map}
 use Rattle.std.specs.Option.{option_or}
 use Rattle.std.specs.List.{cons_option}
-use Rattle.pz_syntax.specs.declared.tokens.Pos.{Pos}
-use Rattle.pz_classes_code.specs.declared.slot.Slot.{Slot}
-use Rattle.pz_offer.specs.declared.trouble.Trouble.{Trouble}
-use Rattle.pz_offer.specs.declared.summary.Summary.{Summary}
-use Rattle.pz_offer.specs.Summaries.{nothing, least, join, shifted}
-use Rattle.pz_offer.proofs.Joins.{join_associative, join_left}
+use Rattle.pz_rules.specs.pz_syntax.declared.tokens.Pos.{Pos}
+use Rattle.pz_rules.specs.pz_classes_code.declared.slot.Slot.{Slot}
+use Rattle.pz_rules.specs.pz_offer.declared.trouble.Trouble.{Trouble}
+use Rattle.pz_rules.specs.pz_offer.declared.summary.Summary.{Summary}
+use Rattle.pz_rules.specs.pz_offer.Summaries.{nothing, least, join, shifted}
+use Rattle.pz_rules.proofs.pz_offer_proofs.Joins.{join_associative, join_left}
 use Rattle.pz_rules.specs.Terms.{Code, Step, Steps, Term, sequence, parallel, select, guarded, frame, abort, idle, handling, Terms, no_terms, and}
 use Rattle.pz_rules.specs.Settings.{Context}
 use Rattle.pz_rules.specs.devices.Found.{tested}

@@ -1,14 +1,14 @@
 -- What is asked nothing has one summary at a clock of its own, whatever the state and the clock of the process.
 use Rattle.std.proofs.Common.{◌≡◌, ℕ, Bool, true, false, ◌||◌, [], ◌∷◌, refl, ap, sym, ◌∙◌}
-use Rattle.pz_syntax.specs.Statements as statement
+use Rattle.pz_rules.specs.pz_syntax.Statements as statement
 use Rattle.pz_rules.specs.Terms.{Step, Term, done, leaf, wait, sequence, parallel, select, guarded, frame, abort, idle, handling, Terms, no_terms, and}
 use Rattle.pz_rules.specs.Settings.{Context}
 use Rattle.pz_rules.specs.devices.Walk.{active_parts, here}
-use Rattle.pz_offer.specs.Summaries.{join}
+use Rattle.pz_rules.specs.pz_offer.Summaries.{join}
 use Rattle.pz_tree_standing.specs.Summaries.{summary_of, summaries_of}
 use Rattle.pz_tree_standing.specs.Asked.{statement_asks, asks, any_asks}
 use Rattle.pz_tree_standing.specs.devices.Tallies.{tally, own_summary}
-use Rattle.pz_offer.proofs.Joins.{join_right}
+use Rattle.pz_rules.proofs.pz_offer_proofs.Joins.{join_right}
 use Rattle.pz_tree_standing.proofs.Tallies.{summary_is_tally, summary_sequence, summary_parallel, summary_select, summary_frame, summary_abort, summary_idle, summary_handling}
 
 pub or_neither : (a b : Bool) → a || b ≡ false → (a ≡ false) × (b ≡ false)

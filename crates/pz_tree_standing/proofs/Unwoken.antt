@@ -1,6 +1,6 @@
 -- What nothing wakes is calm, and stays right.
 use Rattle.std.proofs.Common.{◌≡◌, ◌+◌, ℕ, zero, suc, Bool, true, false, ◌||◌, List, ◌++◌, map, Result, Ok, refl, ap, sym, ◌∙◌, subst, arith}
-use Rattle.pz_syntax.specs.Statements as statement
+use Rattle.pz_rules.specs.pz_syntax.Statements as statement
 use Rattle.pz_clock.specs.Shifts.{is_running}
 use Rattle.pz_nodes_shapes.specs.Rose.{node, none, gone, more, payload}
 use Rattle.pz_rules.specs.Terms.{Step, Term, Terms, no_terms, and, term_at}

@@ -1,10 +1,10 @@
 -- What nothing wakes is steady.
 use Rattle.std.proofs.Common.{◌≡◌, ◌<◌, ◌+◌, ℕ, suc, Bool, false, ◌||◌, List, [], ◌∷◌, ◌++◌, map, Option, Some, None, refl, subst, arith}
 use Rattle.std.specs.Prelude.{option_map}
-use Rattle.pz_syntax.specs.Statements as statement
-use Rattle.pz_offer.specs.PlaceOrder.{Place}
-use Rattle.pz_offer.specs.Summaries.{least}
-use Rattle.pz_eval_rules.specs.Clocks.{names_clock}
+use Rattle.pz_rules.specs.pz_syntax.Statements as statement
+use Rattle.pz_rules.specs.pz_offer.PlaceOrder.{Place}
+use Rattle.pz_rules.specs.pz_offer.Summaries.{least}
+use Rattle.pz_rules.specs.pz_eval_rules.Clocks.{names_clock}
 use Rattle.pz_rules.specs.Terms.{Step, Term, done, leaf, wait, sequence, parallel, select, guarded, frame, abort, idle, handling, Terms, no_terms, and}
 use Rattle.pz_rules.specs.Settings.{Context}
 use Rattle.pz_rules.specs.devices.Walk.{ActivePart, Noted, under, behind, active_parts, active_children, noted, noted_at, waiting}

@@ -1,6 +1,6 @@
 -- A node whose children keep the right summaries keeps the right one, if it is made of theirs.
 use Rattle.std.proofs.Common.{◌≡◌, ℕ, zero, suc, ◌+◌, ◌-◌, Bool, true, false, Option, Some, None, Result, Ok, Err, refl, ap, sym, ◌∙◌, subst, arith}
-use Rattle.pz_offer.specs.declared.trouble.Trouble.{Trouble}
+use Rattle.pz_rules.specs.pz_offer.declared.trouble.Trouble.{Trouble}
 use Rattle.pz_clock.specs.Shifts.{ShiftView, is_running, local, local_since, ShiftFits, FitsSince}
 use Rattle.pz_nodes_shapes.specs.Rose.{node, none, gone, more}
 use Rattle.pz_rules.specs.Terms.{Term, Terms, no_terms, and, term_at}
@@ -9,10 +9,10 @@ use Rattle.pz_rules.specs.Settings.{Context}
 use Rattle.pz_rules.specs.devices.Found.{tested}
 use Rattle.pz_rules.specs.Terms.{Step}
 use Rattle.pz_rules.specs.devices.Walk.{active_parts}
-use Rattle.pz_offer.specs.declared.summary.Summary.{Summary}
-use Rattle.pz_offer.specs.Summaries.{nothing, join}
-use Rattle.pz_offer.specs.Summaries as summaries
-use Rattle.pz_offer.proofs.Joins.{join_right}
+use Rattle.pz_rules.specs.pz_offer.declared.summary.Summary.{Summary}
+use Rattle.pz_rules.specs.pz_offer.Summaries.{nothing, join}
+use Rattle.pz_rules.specs.pz_offer.Summaries as summaries
+use Rattle.pz_rules.proofs.pz_offer_proofs.Joins.{join_right}
 use Rattle.pz_tree_standing.specs.Summaries.{summary_of, summaries_of, gated}
 use Rattle.pz_tree_standing.specs.devices.Tallies.{own_summary}
 use Rattle.pz_tree_standing.proofs.Tallies.{summary_is_tally, summary_sequence, summary_parallel, summary_select, summary_guarded, summary_frame, summary_abort, summary_idle, summary_handling, summary_shifted}

@@ -1,6 +1,6 @@
 -- Terms of which something is asked at every moment.
 use Rattle.std.specs.Prelude.{Bool, true, false, ◌||◌}
-use Rattle.pz_syntax.specs.Statements.{delay, send}
+use Rattle.pz_rules.specs.pz_syntax.Statements.{delay, send}
 use Rattle.pz_rules.specs.Terms.{Step, Term, done, leaf, wait, sequence, parallel, select, guarded, frame, abort, idle, handling, Terms, no_terms, and}
 
 -- the time of a delay that has not begun, the arguments of a send

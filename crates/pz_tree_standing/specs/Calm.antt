@@ -1,6 +1,6 @@
 -- Shapes in which nothing begins as time passes.
 use Rattle.std.specs.Prelude.{◌≡◌, ℕ, suc, true}
-use Rattle.pz_syntax.specs.Statements.{delay}
+use Rattle.pz_rules.specs.pz_syntax.Statements.{delay}
 use Rattle.pz_nodes_shapes.specs.Rose.{node, none, gone, more}
 use Rattle.pz_rules.specs.Settings.{Context}
 use Rattle.pz_tree_standing.specs.Heads.{Head, leaf, Shape, Shapes, inner_frame}

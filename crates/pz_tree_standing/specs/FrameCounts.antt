@@ -1,8 +1,8 @@
 -- How often frames stand in a term, which stand no longer after an action, and which open.
 use Rattle.std.specs.Prelude.{ℕ, zero, suc, ◌+◌, Bool, true, false, eqb, if◌then◌else◌, List, [], ◌∷◌, ◌++◌}
-use Rattle.pz_classes_code.specs.declared.slot.Slot.{Slot}
-use Rattle.pz_offer.specs.PlaceOrder.{Place}
-use Rattle.pz_state.specs.States.{StateView}
+use Rattle.pz_rules.specs.pz_classes_code.declared.slot.Slot.{Slot}
+use Rattle.pz_rules.specs.pz_offer.PlaceOrder.{Place}
+use Rattle.pz_rules.specs.pz_state.States.{StateView}
 use Rattle.pz_rules.specs.Terms.{Term, done, sequence, select, frame, abort, idle, handling, frames_in, frames_in_all, child, frame_in}
 use Rattle.pz_rules.specs.Settings.{Process, Home}
 use Rattle.pz_rules.specs.Opening.{opened, opened_all}

@@ -1,8 +1,8 @@
 -- How many frames of each number are open in a state, and how an action changes that.
 use Rattle.std.specs.Prelude.{◌≡◌, ◌≤◌, ◌+◌, ℕ, List, map, Ok}
-use Rattle.pz_syntax.specs.declared.tokens.Pos.{Pos}
-use Rattle.pz_copy.specs.Parcels.{ParcelView}
-use Rattle.pz_offer.specs.PlaceOrder.{Place}
+use Rattle.pz_rules.specs.pz_syntax.declared.tokens.Pos.{Pos}
+use Rattle.pz_rules.specs.pz_copy.Parcels.{ParcelView}
+use Rattle.pz_rules.specs.pz_offer.PlaceOrder.{Place}
 use Rattle.pz_rules.specs.declared.limits.Edition.{Edition}
 use Rattle.pz_rules.specs.declared.limits.Edition.TheVariants.{One, Two}
 use Rattle.pz_rules.specs.Terms.{Term}
@@ -13,7 +13,7 @@ use Rattle.pz_rules.specs.Leaving.{residual}
 use Rattle.pz_rules.specs.Starting.{StartsAs}
 use Rattle.pz_rules.specs.Delays.{Passes}
 use Rattle.pz_bind_levels.specs.Places.{Address}
-use Rattle.pz_state.specs.States.{StateView}
+use Rattle.pz_rules.specs.pz_state.States.{StateView}
 use Rattle.pz_tree_standing.specs.FrameCounts.{count_in, times, gained_all}
 
 -- the numbers of the open frames

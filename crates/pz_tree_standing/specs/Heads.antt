@@ -1,8 +1,8 @@
 -- What a node holds: what it is, but for its children, and the summary that it keeps.
 use Rattle.std.specs.Prelude.{ℕ, zero, suc, ◌-◌, List}
-use Rattle.pz_syntax.specs.declared.tokens.Pos.{Pos}
-use Rattle.pz_classes_code.specs.declared.slot.Slot.{Slot}
-use Rattle.pz_offer.specs.declared.summary.Summary.{Summary}
+use Rattle.pz_rules.specs.pz_syntax.declared.tokens.Pos.{Pos}
+use Rattle.pz_rules.specs.pz_classes_code.declared.slot.Slot.{Slot}
+use Rattle.pz_rules.specs.pz_offer.declared.summary.Summary.{Summary}
 use Rattle.pz_clock.specs.Shifts.{ShiftView, local}
 use Rattle.pz_nodes_shapes.specs.Rose.{Rose, Roses}
 use Rattle.pz_rules.specs.Terms.{Code, Step, Steps, Term, Terms, term_at}

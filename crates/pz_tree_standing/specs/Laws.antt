@@ -1,7 +1,7 @@
 -- Laws of what nodes stand for.
 use Rattle.std.specs.Prelude.{◌≡◌, ◌<◌, ◌≤◌, ◌↔◌, ◌+◌, ◌*◌, ℕ, true, false}
-use Rattle.pz_classes.specs.Soundness.{IsSound}
-use Rattle.pz_offer.specs.PlaceOrder.{Place}
+use Rattle.pz_rules.specs.pz_classes_rules.Soundness.{IsSound}
+use Rattle.pz_rules.specs.pz_offer.PlaceOrder.{Place}
 use Rattle.pz_nodes_shapes.specs.Rose.{Map, width, payload}
 use Rattle.pz_nodes_shapes.specs.Reading.{depth}
 use Rattle.pz_rules.specs.declared.limits.Edition.TheVariants.{One}

@@ -1,7 +1,7 @@
 -- Terms whose active parts answer the same when time d has passed.
 use Rattle.std.specs.Prelude.{◌≡◌, ◌<◌, ◌+◌, ℕ, true, false, Ok}
-use Rattle.pz_syntax.specs.Statements.{delay, send}
-use Rattle.pz_eval_rules.specs.Clocks.{names_clock, part_names_clock}
+use Rattle.pz_rules.specs.pz_syntax.Statements.{delay, send}
+use Rattle.pz_rules.specs.pz_eval_rules.Clocks.{names_clock, part_names_clock}
 use Rattle.pz_rules.specs.Terms.{Step, Term, done, leaf, wait, sequence, parallel, select, guarded, frame, abort, idle, handling, Terms, no_terms, and}
 use Rattle.pz_rules.specs.Settings.{Context}
 use Rattle.pz_rules.specs.devices.Found.{tested}

@@ -1,9 +1,9 @@
 -- The summary of a term: how many internal actions, sends and receives its active parts have, when the first of
 -- its delays is over, and the first trouble of what they are asked.
 use Rattle.std.specs.Prelude.{◌+◌, ℕ, Bool, true, false, List, [], ◌∷◌, length, Option, Some, None, option_map, Result, Ok, Err}
-use Rattle.pz_offer.specs.declared.trouble.Trouble.{Trouble}
-use Rattle.pz_offer.specs.declared.summary.Summary.{Summary}
-use Rattle.pz_offer.specs.Summaries.{nothing, least, join}
+use Rattle.pz_rules.specs.pz_offer.declared.trouble.Trouble.{Trouble}
+use Rattle.pz_rules.specs.pz_offer.declared.summary.Summary.{Summary}
+use Rattle.pz_rules.specs.pz_offer.Summaries.{nothing, least, join}
 use Rattle.pz_rules.specs.Terms.{Term, Terms, no_terms, and}
 use Rattle.pz_rules.specs.Settings.{Context}
 use Rattle.pz_rules.specs.devices.Walk.{ActivePart, Noted, active_parts, noted, does, sent_by, received_by, waiting, troubled_by}

@@ -1,9 +1,9 @@
 -- The summary of a term from those of its parts; and when it stays as it is.
 use Rattle.std.specs.Prelude.{◌≡◌, ◌+◌, ℕ, false, List}
-use Rattle.pz_syntax.specs.declared.tokens.Pos.{Pos}
-use Rattle.pz_classes_code.specs.declared.slot.Slot.{Slot}
-use Rattle.pz_classes.specs.Soundness.{IsSound}
-use Rattle.pz_offer.specs.Summaries.{join, shifted}
+use Rattle.pz_rules.specs.pz_syntax.declared.tokens.Pos.{Pos}
+use Rattle.pz_rules.specs.pz_classes_code.declared.slot.Slot.{Slot}
+use Rattle.pz_rules.specs.pz_classes_rules.Soundness.{IsSound}
+use Rattle.pz_rules.specs.pz_offer.Summaries.{join, shifted}
 use Rattle.pz_rules.specs.Terms.{Code, Step, Steps, Term, sequence, parallel, select, guarded, frame, abort, idle, handling, Terms}
 use Rattle.pz_rules.specs.Settings.{Context}
 use Rattle.pz_rules.specs.Delays.{Passes}

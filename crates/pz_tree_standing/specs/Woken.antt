@@ -1,8 +1,8 @@
 -- What a passing of time may wake: active delays that have not begun, active parts that name the clock, and active
 -- delays that are over by then.
 use Rattle.std.specs.Prelude.{◌<◌, ℕ, Bool, true, false, ◌||◌, List, [], ◌∷◌, Option, Some, None}
-use Rattle.pz_syntax.specs.Statements.{delay, send, receive}
-use Rattle.pz_eval_rules.specs.Clocks.{names_clock, part_names_clock}
+use Rattle.pz_rules.specs.pz_syntax.Statements.{delay, send, receive}
+use Rattle.pz_rules.specs.pz_eval_rules.Clocks.{names_clock, part_names_clock}
 use Rattle.pz_rules.specs.Terms.{Code, Step, Term, leaf, guarded}
 use Rattle.pz_rules.specs.Settings.{Context}
 use Rattle.pz_rules.specs.devices.Walk.{ActivePart, active_parts}

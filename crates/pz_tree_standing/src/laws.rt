@@ -16,7 +16,7 @@ pub fn reached_parts_are_active()
     ensures law { ReachesWhatGoesOn }
 {
     pz_rules::laws::evaluations_are_computed();
-    pz_eval_rules::laws::computed_is_found();
+    pz_rules::pz_eval_rules::laws::computed_is_found();
 }
 
 /// Where no active delay begins, the same nodes, not one touched, stand for what the passing of time leaves.
@@ -38,7 +38,7 @@ pub fn still_right()
 {
     crate::laws::steady_terms_keep_summaries();
     crate::laws::unasked_is_steady();
-    pz_eval_rules::laws::unclocked_is_timeless();
+    pz_rules::pz_eval_rules::laws::unclocked_is_timeless();
     pz_clock::laws::local_clocks();
 }
 
@@ -117,7 +117,7 @@ pub fn steady_terms_keep_summaries()
     ensures computed { SteadySummaryIsComputed }
     ensures tests { TestIsSteady }
 {
-    pz_eval_rules::laws::unclocked_is_timeless();
+    pz_rules::pz_eval_rules::laws::unclocked_is_timeless();
     pz_rules::laws::passing_is_computed();
 }
 

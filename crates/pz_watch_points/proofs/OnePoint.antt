@@ -4,21 +4,21 @@ use Rattle.std.specs.Prelude.{nat_eq, slice_get}
 use Rattle.std.specs.Option.{option_map_or}
 use Rattle.std.specs.Fmt.{decimal}
 use Rattle.std.proofs.lemmas.List.Folds.{list_any-append}
-use Rattle.pz_syntax.specs.declared.tokens.Pos.{Pos}
-use Rattle.pz_syntax.specs.Classes.{ModelTree}
-use Rattle.pz_classes.specs.Tables.{class_names}
+use Rattle.pz_bind.specs.pz_syntax.declared.tokens.Pos.{Pos}
+use Rattle.pz_bind.specs.pz_syntax.Classes.{ModelTree}
+use Rattle.pz_bind.specs.pz_classes_rules.ClassNames.{class_names}
 use Rattle.pz_bind_levels.specs.Places.{Address}
 use Rattle.pz_bind_levels.specs.Wires.{Channel}
-use Rattle.pz_bind.specs.Nest.{processes}
-use Rattle.pz_bind.specs.Names.{path, wire_name, name_at}
-use Rattle.pz_bind.specs.Wires.{wires}
-use Rattle.pz_copy.specs.Parcels.{ParcelView}
-use Rattle.pz_copy.specs.ParcelText.{values_text, objects_text}
-use Rattle.pz_rules.specs.declared.action.Kind.{Kind}
-use Rattle.pz_rules.specs.declared.action.Kind.TheVariants as kind
-use Rattle.pz_rules.specs.declared.action.Action.{Action}
-use Rattle.pz_rules.specs.declared.action.Action.TheVariants.{Internal, Comm}
-use Rattle.pz_rules.specs.Runs.{Event, acted, passed}
+use Rattle.pz_trace.specs.pz_bind_rules.Nest.{processes}
+use Rattle.pz_trace.specs.pz_bind_rules.Names.{path, wire_name, name_at}
+use Rattle.pz_trace.specs.pz_bind_rules.Wires.{wires}
+use Rattle.pz_trace.specs.pz_copy.Parcels.{ParcelView}
+use Rattle.pz_trace.specs.pz_copy.ParcelText.{values_text, objects_text}
+use Rattle.pz_trace.specs.pz_rules.declared.action.Kind.{Kind}
+use Rattle.pz_trace.specs.pz_rules.declared.action.Kind.TheVariants as kind
+use Rattle.pz_trace.specs.pz_rules.declared.action.Action.{Action}
+use Rattle.pz_trace.specs.pz_rules.declared.action.Action.TheVariants.{Internal, Comm}
+use Rattle.pz_trace.specs.pz_rules.Runs.{Event, acted, passed}
 use Rattle.pz_trace.specs.Words.{kind_word, pos_text}
 use Rattle.pz_trace.specs.Labels.{path_of, wire_of, label}
 use Rattle.pz_trace.specs.Lines.{newline}

@@ -1,13 +1,13 @@
 -- The clocks of a run never fall.
 use Rattle.std.proofs.Common.{◌≡◌, refl, sym, ap, ℕ, zero, suc, ◌≤◌, ◌<◌, ◌+◌, List, [], ◌∷◌, ◌++◌, length, Result, Ok, Err, arith}
-use Rattle.pz_offer.specs.declared.trouble.Trouble.{Trouble}
-use Rattle.pz_rules.specs.declared.action.Action.{Action}
-use Rattle.pz_rules.specs.Settings.{Setting, Process}
-use Rattle.pz_rules.specs.Configurations.{Config}
-use Rattle.pz_rules.specs.Meanings.{and_then}
-use Rattle.pz_rules.specs.Steps as steps
-use Rattle.pz_rules.specs.Steps.{Next, PassesTo, with_process, with_both}
-use Rattle.pz_rules.specs.Runs.{Event, acted, passed, Standing, Reaches, here, acts, stops, passes}
+use Rattle.pz_trace.specs.pz_offer.declared.trouble.Trouble.{Trouble}
+use Rattle.pz_trace.specs.pz_rules.declared.action.Action.{Action}
+use Rattle.pz_trace.specs.pz_rules.Settings.{Setting, Process}
+use Rattle.pz_trace.specs.pz_rules.Configurations.{Config}
+use Rattle.pz_trace.specs.pz_rules.Meanings.{and_then}
+use Rattle.pz_trace.specs.pz_rules.Steps as steps
+use Rattle.pz_trace.specs.pz_rules.Steps.{Next, PassesTo, with_process, with_both}
+use Rattle.pz_trace.specs.pz_rules.Runs.{Event, acted, passed, Standing, Reaches, here, acts, stops, passes}
 use Rattle.pz_watch.specs.Points.{Point, clock_at, AreInOrder}
 use Rattle.pz_watch_points.specs.EventPoints.{event_point, points_of}
 use Rattle.pz_watch_points.specs.Laws.{LieWithin}

@@ -1,7 +1,7 @@
 -- Of an action that is named, the processes are there.
 use Rattle.pz_bind.specs.declared.net.Net.{Net}
-use Rattle.pz_rules.specs.declared.action.Action.{Action}
-use Rattle.pz_rules.specs.declared.action.Action.TheVariants.{Internal, Comm}
+use Rattle.pz_trace.specs.pz_rules.declared.action.Action.{Action}
+use Rattle.pz_trace.specs.pz_rules.declared.action.Action.TheVariants.{Internal, Comm}
 use Rattle.pz_trace.specs.Named.{IsNamed}
 use Rattle.pz_watch_points.specs.Present.{HasProcesses}
 

@@ -1,18 +1,18 @@
 -- The points of worked runs, and the lines of a trace with those of watches that are broken behind them.
 use Rattle.std.proofs.Common.{◌≡◌, refl, ℕ, List, [], ◌∷◌, ◌++◌, length, Some, None, codes}
 use Rattle.std.specs.Fmt.{digits}
-use Rattle.pz_syntax.specs.declared.tokens.Pos.{Pos}
-use Rattle.pz_syntax.specs.declared.names.Id.{Id}
-use Rattle.pz_syntax.specs.declared.clusters.Instance.{Instance}
-use Rattle.pz_syntax.specs.declared.clusters.Channel.{Channel}
-use Rattle.pz_syntax.specs.declared.clusters.ChannelEnd.{ChannelEnd}
-use Rattle.pz_syntax.specs.declared.clusters.ChannelEnd.TheVariants.{Inner}
-use Rattle.pz_syntax.specs.Classes.{DeclTree, process_class, cluster_class, system, ModelTree}
-use Rattle.pz_copy.specs.Parcels.{ParcelView}
-use Rattle.pz_offer.specs.declared.end.End.{End}
-use Rattle.pz_rules.specs.declared.action.Kind.TheVariants.{Skip, Eval, Test, Expire, Call}
-use Rattle.pz_rules.specs.declared.action.Action.TheVariants.{Internal, Comm}
-use Rattle.pz_rules.specs.Runs.{Event, acted, passed}
+use Rattle.pz_bind.specs.pz_syntax.declared.tokens.Pos.{Pos}
+use Rattle.pz_bind.specs.pz_syntax.declared.names.Id.{Id}
+use Rattle.pz_bind.specs.pz_syntax.declared.clusters.Instance.{Instance}
+use Rattle.pz_bind.specs.pz_syntax.declared.clusters.Channel.{Channel}
+use Rattle.pz_bind.specs.pz_syntax.declared.clusters.ChannelEnd.{ChannelEnd}
+use Rattle.pz_bind.specs.pz_syntax.declared.clusters.ChannelEnd.TheVariants.{Inner}
+use Rattle.pz_bind.specs.pz_syntax.Classes.{DeclTree, process_class, cluster_class, system, ModelTree}
+use Rattle.pz_trace.specs.pz_copy.Parcels.{ParcelView}
+use Rattle.pz_trace.specs.pz_offer.declared.end.End.{End}
+use Rattle.pz_trace.specs.pz_rules.declared.action.Kind.TheVariants.{Skip, Eval, Test, Expire, Call}
+use Rattle.pz_trace.specs.pz_rules.declared.action.Action.TheVariants.{Internal, Comm}
+use Rattle.pz_trace.specs.pz_rules.Runs.{Event, acted, passed}
 use Rattle.pz_trace.specs.declared.forms.Form.TheVariants.{Three}
 use Rattle.pz_trace.specs.declared.ending.Ending.TheVariants as ending
 use Rattle.pz_trace.specs.Lines.{header, end_line}

@@ -1,9 +1,9 @@
 -- The line of an event shows its point.
-use Rattle.pz_syntax.specs.Classes.{ModelTree}
-use Rattle.pz_copy.specs.ParcelText.{parcel_text}
-use Rattle.pz_classes.specs.Tables.{class_names}
-use Rattle.pz_rules.specs.declared.action.Action.TheVariants.{Internal, Comm}
-use Rattle.pz_rules.specs.Runs.{Event, acted, passed}
+use Rattle.pz_bind.specs.pz_syntax.Classes.{ModelTree}
+use Rattle.pz_trace.specs.pz_copy.ParcelText.{parcel_text}
+use Rattle.pz_bind.specs.pz_classes_rules.ClassNames.{class_names}
+use Rattle.pz_trace.specs.pz_rules.declared.action.Action.TheVariants.{Internal, Comm}
+use Rattle.pz_trace.specs.pz_rules.Runs.{Event, acted, passed}
 use Rattle.pz_trace.specs.Words.{kind_word}
 use Rattle.pz_trace.specs.Labels.{path_of, wire_of}
 use Rattle.pz_trace.specs.TraceText.{event_line}

@@ -1,9 +1,9 @@
 -- The points of the events of a run: each action and each passing of time has one, in their order.
 use Rattle.std.specs.Prelude.{ℕ, List, map}
-use Rattle.pz_syntax.specs.Classes.{ModelTree}
-use Rattle.pz_rules.specs.declared.action.Action.{Action}
-use Rattle.pz_rules.specs.declared.action.Action.TheVariants.{Internal, Comm}
-use Rattle.pz_rules.specs.Runs.{Event, acted, passed}
+use Rattle.pz_bind.specs.pz_syntax.Classes.{ModelTree}
+use Rattle.pz_trace.specs.pz_rules.declared.action.Action.{Action}
+use Rattle.pz_trace.specs.pz_rules.declared.action.Action.TheVariants.{Internal, Comm}
+use Rattle.pz_trace.specs.pz_rules.Runs.{Event, acted, passed}
 use Rattle.pz_trace.specs.Words.{kind_word}
 use Rattle.pz_trace.specs.Labels.{path_of}
 use Rattle.pz_watch.specs.Points.{Happening, passing, internal, communication, Point}

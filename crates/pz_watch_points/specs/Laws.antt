@@ -1,17 +1,17 @@
 -- Laws of the points of runs.
 use Rattle.std.specs.Prelude.{◌≡◌, ◌≤◌, ◌<◌, ◌^◌, ℕ, nat_eq, false, List, [], ◌∷◌, ◌++◌, length}
 use Rattle.std.specs.List.{list_any}
-use Rattle.pz_syntax.specs.Classes.{ModelTree}
+use Rattle.pz_bind.specs.pz_syntax.Classes.{ModelTree}
 use Rattle.pz_bind_levels.specs.Places.{Address}
 use Rattle.pz_bind.specs.declared.net.Net.{Net}
-use Rattle.pz_bind.specs.Names.{name_at}
+use Rattle.pz_trace.specs.pz_bind_rules.Names.{name_at}
 use Rattle.pz_bind.specs.devices.Nets.{IsNet}
-use Rattle.pz_rules.specs.declared.action.Action.{Action}
-use Rattle.pz_rules.specs.declared.action.Action.TheVariants.{Internal, Comm}
-use Rattle.pz_rules.specs.Settings.{Setting}
-use Rattle.pz_rules.specs.Configurations.{Config}
-use Rattle.pz_rules.specs.Offers.{Offers}
-use Rattle.pz_rules.specs.Runs.{Event, acted, passed, Standing, Reaches}
+use Rattle.pz_trace.specs.pz_rules.declared.action.Action.{Action}
+use Rattle.pz_trace.specs.pz_rules.declared.action.Action.TheVariants.{Internal, Comm}
+use Rattle.pz_trace.specs.pz_rules.Settings.{Setting}
+use Rattle.pz_trace.specs.pz_rules.Configurations.{Config}
+use Rattle.pz_trace.specs.pz_rules.Offers.{Offers}
+use Rattle.pz_trace.specs.pz_rules.Runs.{Event, acted, passed, Standing, Reaches}
 use Rattle.pz_trace.specs.Named.{IsNamed}
 use Rattle.pz_trace.specs.TraceText.{event_line}
 use Rattle.pz_watch.specs.Points.{Point, clock_at, AreInOrder}

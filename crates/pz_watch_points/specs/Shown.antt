@@ -1,7 +1,7 @@
 -- The point that a line of a trace shows.
 use Rattle.std.specs.Prelude.{ℕ, List, ◌++◌, codes}
 use Rattle.std.specs.Fmt.{decimal}
-use Rattle.pz_syntax.specs.declared.tokens.Pos.{Pos}
+use Rattle.pz_bind.specs.pz_syntax.declared.tokens.Pos.{Pos}
 use Rattle.pz_trace.specs.Words.{pos_text}
 use Rattle.pz_watch.specs.Points.{Happening, passing, internal, communication, Point}
 

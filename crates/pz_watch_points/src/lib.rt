@@ -5,4 +5,5 @@ pub mod laws;
 mod names;
 mod spots;
 
+pub use pz_trace;
 pub use spots::{passing, spot};

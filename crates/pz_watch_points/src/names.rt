@@ -1,14 +1,14 @@
 // The words that lines have for processes and for kinds of actions. Takes no memory.
 
 ghost use Rattle.std.specs.Prelude.{◌≡◌};
-ghost use Rattle.pz_syntax.specs.Classes.{ModelTree};
+ghost use Rattle.pz_bind.specs.pz_syntax.Classes.{ModelTree};
 ghost use Rattle.pz_bind.specs.NetView.{HasProcess};
 ghost use Rattle.pz_bind.specs.devices.Nets.{IsNet};
 ghost use Rattle.pz_trace.specs.Labels.{path_of};
 ghost use Rattle.pz_trace.specs.Words as words;
 
 use pz_bind::Net;
-use pz_rules::Kind;
+use pz_trace::pz_rules::Kind;
 
 /// The path of a process.
 pub(crate) fn path(net: &Net, process: u32) -> &[u8]

@@ -1,7 +1,7 @@
 // The points of a run, made of what a run has at hand when an event happens. Takes no memory.
 
 ghost use Rattle.std.specs.Prelude.{◌≡◌};
-ghost use Rattle.pz_syntax.specs.Classes.{ModelTree};
+ghost use Rattle.pz_bind.specs.pz_syntax.Classes.{ModelTree};
 ghost use Rattle.pz_bind.specs.devices.Nets.{IsNet};
 ghost use Rattle.pz_watch.specs.SpotView.{happening, point_of};
 ghost use Rattle.pz_watch_points.specs.EventPoints.{happening_of, action_point, passing_point};
@@ -9,7 +9,7 @@ ghost use Rattle.pz_watch_points.specs.Present.{HasProcesses};
 
 use crate::names::{kind_word, path};
 use pz_bind::Net;
-use pz_rules::Action;
+use pz_trace::pz_rules::Action;
 use pz_watch::{Event, Spot};
 
 /// The point of an action that is chosen at a clock, in clock units. It borrows its words, from the

@@ -1,15 +1,15 @@
 //! Questions in the comments of a model: `//? f 5 3` evaluates the statements of the method `f` of the
 //! process class `P` in a new state, with 5 units and a depth of 3 for each.
 
-ghost use Rattle.pz_syntax.specs.ClassView.{model_view};
-ghost use Rattle.pz_syntax.specs.ModelText.{HasFewMarks};
-ghost use Rattle.pz_classes.specs.devices.Rows.{AreClasses};
+ghost use Rattle.pz_classes_code.specs.pz_syntax.ClassView.{model_view};
+ghost use Rattle.pz_classes_code.specs.pz_syntax.ModelText.{HasFewMarks};
+ghost use Rattle.pz_eval.specs.pz_classes.devices.Rows.{AreClasses};
 
 use crate::reading::model_in;
 use crate::statements::show_statements;
-use pz_classes::{Body, Classes};
+use pz_classes_code::pz_syntax::Model;
 use pz_eval::Allowance;
-use pz_syntax::Model;
+use pz_eval::pz_classes::{Body, Classes};
 use std::io;
 
 /// What a comment begins with that asks a question.

@@ -1,9 +1,9 @@
 //! Values, outcomes and states.
 
+use pz_classes_code::pz_syntax::Pos;
+use pz_classes_code::pz_value::Value;
+use pz_copy::pz_state::{FaultKind, State};
 use pz_eval::{Listed, Outcome};
-use pz_state::{FaultKind, State};
-use pz_syntax::Pos;
-use pz_value::Value;
 use std::io;
 
 fn show_text(rt: &HostRuntime, bytes: &[u8]) -> io::Result<()> {

@@ -3,13 +3,13 @@
 ghost use Rattle.pz_eval.specs.Known.{AreKnown};
 
 use crate::showing::{show_fault, show_listed, show_outcome, show_state, show_values};
-use pz_classes::{Classes, Step};
+use pz_classes_code::pz_items::{Items, Shared};
+use pz_classes_code::pz_syntax::Pos;
 use pz_classes_code::{Code, Slot, StepForm};
 use pz_copy::Parcel;
+use pz_copy::pz_state::{FrameId, State, nil_values};
+use pz_eval::pz_classes::{Classes, Step};
 use pz_eval::{Allowance, Parceled, eval, eval_list, try_condition, try_eval, try_parcel};
-use pz_items::{Items, Shared};
-use pz_state::{FrameId, State, nil_values};
-use pz_syntax::Pos;
 use std::io;
 
 /// How many variables the process has.

@@ -2,7 +2,7 @@
 //! long chain of classes.
 
 use crate::reading::{model_in, tokens_in, tree_of};
-use pz_classes::Classes;
+use pz_bind::pz_classes::Classes;
 use std::alloc::{AllocError, Global};
 use std::io;
 

@@ -1,9 +1,9 @@
 //! Bodies of methods: each statement and expression in brackets, behind its place, and with slots in
 //! place of names. Of a form that no row has, only that it is another is printed.
 
-use pz_classes::{Body, Code, CodeForm, CodeLink, CodeSending, Slot, Step, StepForm};
-use pz_items::{Items, Shared};
-use pz_syntax::{Id, Literal};
+use pz_bind::pz_classes::{Body, Code, CodeForm, CodeLink, CodeSending, Slot, Step, StepForm};
+use pz_classes_code::pz_items::{Items, Shared};
+use pz_classes_code::pz_syntax::{Id, Literal};
 use std::io;
 
 /// What is printed of a part that may be left out.

@@ -1,11 +1,11 @@
 //! From a model to a checked one.
 
-ghost use Rattle.pz_syntax.specs.ClassView.{model_view};
-ghost use Rattle.pz_syntax.specs.ModelText.{HasFewMarks};
+ghost use Rattle.pz_classes_code.specs.pz_syntax.ClassView.{model_view};
+ghost use Rattle.pz_classes_code.specs.pz_syntax.ModelText.{HasFewMarks};
 
+use pz_bind::pz_classes::{BuildError, Checked, Classes, Violation};
 use pz_check::{CheckError, check};
-use pz_classes::{BuildError, Checked, Classes, Violation};
-use pz_syntax::Model;
+use pz_classes_code::pz_syntax::Model;
 use std::alloc::Global;
 use std::io;
 

@@ -1,16 +1,16 @@
 //! The classes of a model: what each inherits, the look-up of methods, and bodies with slots.
 
 ghost use Rattle.std.specs.Prelude.{IfSome};
-ghost use Rattle.pz_syntax.specs.ClassView.{model_view};
-ghost use Rattle.pz_syntax.specs.ModelText.{HasFewMarks};
-ghost use Rattle.pz_classes.specs.Tables.{HasClass, HasMethod};
-ghost use Rattle.pz_classes.specs.devices.Rows.{AreClasses};
+ghost use Rattle.pz_classes_code.specs.pz_syntax.ClassView.{model_view};
+ghost use Rattle.pz_classes_code.specs.pz_syntax.ModelText.{HasFewMarks};
+ghost use Rattle.pz_bind.specs.pz_classes.Tables.{HasClass, HasMethod};
+ghost use Rattle.pz_bind.specs.pz_classes.devices.Rows.{AreClasses};
 
 use crate::bodies::{show_body, show_step};
-use pz_classes::{Classes, MethodId, Step};
+use pz_bind::pz_classes::{Classes, MethodId, Step};
 use pz_classes_code::NameFront;
-use pz_syntax::Model;
-use pz_value::ClassId;
+use pz_classes_code::pz_syntax::Model;
+use pz_classes_code::pz_value::ClassId;
 use std::io;
 
 /// What a comment begins with that asks for a class or a method.

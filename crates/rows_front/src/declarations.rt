@@ -3,10 +3,12 @@
 
 ghost use Rattle.std.specs.Prelude.{◌+◌, ◌-◌, ◌^◌, min};
 
-use pz_classes::{channels_of, instances_of};
+use pz_bind::pz_classes::{channels_of, instances_of};
+use pz_classes_code::pz_items::Items;
+use pz_classes_code::pz_syntax::{
+    Arg, Channel, ChannelEnd, Decl, Given, Id, Instance, Message, Model, VarGroup,
+};
 use pz_classes_mentions::{Listener, Part, Word, parts_of};
-use pz_items::Items;
-use pz_syntax::{Arg, Channel, ChannelEnd, Decl, Given, Id, Instance, Message, Model, VarGroup};
 use std::io;
 
 /// Counts the words that it is told.

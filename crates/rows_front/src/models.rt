@@ -1,11 +1,11 @@
 //! Models: that their text is that of their tokens, their heads and their nesting.
 
-ghost use Rattle.pz_syntax.specs.ClassView.{model_view};
-ghost use Rattle.pz_syntax.specs.ModelText.{HasFewMarks};
+ghost use Rattle.pz_classes_code.specs.pz_syntax.ClassView.{model_view};
+ghost use Rattle.pz_classes_code.specs.pz_syntax.ModelText.{HasFewMarks};
 
 use crate::reading::{tokens_in, tree_of};
 use pz_ast::{nesting, tokens_of};
-use pz_syntax::{Mark, Model, Token};
+use pz_classes_code::pz_syntax::{Mark, Model, Token};
 use std::alloc::{AllocError, Global};
 use std::io;
 

@@ -1,13 +1,13 @@
 //! The processes and the wires of a model's system.
 
-ghost use Rattle.pz_syntax.specs.ClassView.{model_view};
-ghost use Rattle.pz_syntax.specs.ModelText.{HasFewMarks};
+ghost use Rattle.pz_classes_code.specs.pz_syntax.ClassView.{model_view};
+ghost use Rattle.pz_classes_code.specs.pz_syntax.ModelText.{HasFewMarks};
 ghost use Rattle.pz_bind.specs.NetView.{HasProcess, IsWireOf};
 
 use crate::checking::{check_model, show_error};
+use pz_bind::pz_classes::Checked;
 use pz_bind::{Net, Value};
-use pz_classes::Checked;
-use pz_syntax::{Model, Name};
+use pz_classes_code::pz_syntax::{Model, Name};
 use std::io;
 
 /// Bytes that are a name, a path or a string.

@@ -1,14 +1,14 @@
 //! From a text to its tokens and its model.
 
 ghost use Rattle.std.specs.Prelude.{◌≡◌, ◌≤◌, true, length, IfOk};
-ghost use Rattle.pz_syntax.specs.ClassView.{model_view};
-ghost use Rattle.pz_syntax.specs.ModelText.{HasFewMarks, text as text_of};
+ghost use Rattle.pz_classes_code.specs.pz_syntax.ClassView.{model_view};
+ghost use Rattle.pz_classes_code.specs.pz_syntax.ModelText.{HasFewMarks, text as text_of};
 
 use pz_ast::tokens_of;
-use pz_items::Items;
+use pz_classes_code::pz_items::Items;
+use pz_classes_code::pz_syntax::{Model, Token};
 use pz_lexer::{LexError, end_of, lex};
 use pz_parser::{ParseError, parse};
-use pz_syntax::{Model, Token};
 use std::alloc::Global;
 use std::fmt;
 

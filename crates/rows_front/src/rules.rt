@@ -1,20 +1,20 @@
 //! What each call that looks for a violation answers, also where declarations and channels do not
 //! stand in the order of their places.
 
-ghost use Rattle.pz_syntax.specs.ClassView.{model_view};
-ghost use Rattle.pz_syntax.specs.ModelText.{HasFewMarks};
-ghost use Rattle.pz_classes.specs.devices.Rows.{AreClasses};
+ghost use Rattle.pz_classes_code.specs.pz_syntax.ClassView.{model_view};
+ghost use Rattle.pz_classes_code.specs.pz_syntax.ModelText.{HasFewMarks};
+ghost use Rattle.pz_bind.specs.pz_classes.devices.Rows.{AreClasses};
 
 use crate::checking::{refusal_of, show_error};
 use crate::reading::is_short;
+use pz_bind::pz_classes::{Classes, Violation};
 use pz_check::CheckError;
 use pz_check_duplicates::{least_double_end, least_repeat, least_system};
 use pz_check_instances::{least_ill_given, least_missing_end};
 use pz_check_names::{has_unsized_words, least_misuse};
 use pz_check_size::least_holding;
-use pz_classes::{Classes, Violation};
-use pz_items::Items;
-use pz_syntax::{Decl, Model, SystemDecl};
+use pz_classes_code::pz_items::Items;
+use pz_classes_code::pz_syntax::{Decl, Model, SystemDecl};
 use std::alloc::{AllocError, Global};
 use std::io;
 

@@ -1,7 +1,7 @@
 //! Tokens, with their places and heads.
 
 use crate::reading::tokens_in;
-use pz_syntax::{Mark, Token, TokenKind};
+use pz_classes_code::pz_syntax::{Mark, Token, TokenKind};
 use std::io;
 
 /// The mark of a token; of a string, a copy of its bytes.

@@ -1,11 +1,11 @@
 //! What the checker finds.
 
-ghost use Rattle.pz_syntax.specs.ClassView.{model_view};
-ghost use Rattle.pz_syntax.specs.ModelText.{HasFewMarks};
+ghost use Rattle.pz_classes_code.specs.pz_syntax.ClassView.{model_view};
+ghost use Rattle.pz_classes_code.specs.pz_syntax.ModelText.{HasFewMarks};
 
 use crate::checking::{check_model, show_error};
 use pz_check::{CheckError, check_opening};
-use pz_syntax::Model;
+use pz_classes_code::pz_syntax::Model;
 use std::alloc::Global;
 use std::io;
 

@@ -1,8 +1,8 @@
 //! Who answers for the conditions.
 
-use pz_copy::Parcel;
 use pz_match::Judge;
 use pz_nodes::Steps;
+use pz_offer::pz_copy::Parcel;
 use pz_offer::{End, Verdict};
 use rows_match_plain::{Rule, said, spot_of};
 use std::alloc::AllocError;

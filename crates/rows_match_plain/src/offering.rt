@@ -4,11 +4,11 @@ ghost use Rattle.std.specs.Prelude.{◌≡◌, ◌∷◌, ◌<◌, [], false, le
 ghost use Rattle.pz_offer.specs.PlaceOrder.{PlaceBefore};
 
 use crate::words::{Kind, Wish};
-use pz_copy::{Parcel, pack};
+use pz_offer::pz_copy::{Parcel, pack};
+use pz_offer::pz_state::State;
+use pz_offer::pz_value::Value;
 use pz_offer::{Place, ReceiveOffer, SendOffer};
-use pz_state::State;
 use pz_syntax::Name;
-use pz_value::Value;
 use std::alloc::{AllocError, Global};
 
 fn place_of(alloc: Global, number: usize) -> Result<Place, AllocError>

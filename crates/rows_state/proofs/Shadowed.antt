@@ -3,11 +3,11 @@ use Rattle.std.proofs.Common.{◌≡◌, ◌≢◌, ℕ, ◌<◌, Bool, true, fa
 use Rattle.std.specs.Option.{option_map}
 use Rattle.std.specs.Prelude.{Result, Ok, Err, IfOk, OnErr}
 use Rattle.std.proofs.lemmas.List.{length-set, length-replicate}
-use Rattle.pz_value.specs.declared.value.Value.{Value}
-use Rattle.pz_state.specs.States.{StateView, Frames, IsLeastFree, nils, locals_in, at_frame, with_frame, set_variable, set_local, opened, closed}
-use Rattle.pz_state.proofs.FrameTables.{locals_in-with_frame}
-use Rattle.pz_state.specs.Marks.{Seen, changed}
-use Rattle.pz_state.specs.declared.state.FrameId.{FrameId}
+use Rattle.pz_copy.specs.pz_value.declared.value.Value.{Value}
+use Rattle.pz_copy.specs.pz_state.States.{StateView, Frames, IsLeastFree, nils, locals_in, at_frame, with_frame, set_variable, set_local, opened, closed}
+use Rattle.pz_copy.proofs.pz_state_proofs.FrameTables.{locals_in-with_frame}
+use Rattle.pz_copy.specs.pz_state.Marks.{Seen, changed}
+use Rattle.pz_copy.specs.pz_state.declared.state.FrameId.{FrameId}
 use Rattle.rows_state.specs.declared.subject.Frame.{Frame}
 use Rattle.rows_state.specs.declared.subject.Saved.{Saved}
 use Rattle.rows_state.specs.devices.Shadows.{IsKnown, AreSaved}

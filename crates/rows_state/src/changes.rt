@@ -1,7 +1,7 @@
 //! Changes of a state, a line each.
 
 use crate::subject::Subject;
-use pz_state::{FrameId, MakeError};
+use pz_copy::pz_state::{FrameId, MakeError};
 use std::alloc::{AllocError, Global};
 use std::io;
 

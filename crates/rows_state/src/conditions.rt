@@ -1,9 +1,9 @@
 //! What calls ask of values and objects, as tests.
 
 ghost use Rattle.std.specs.Prelude.{◌≡◌, ◌<◌, length, All, IsTrue};
-ghost use Rattle.pz_state.specs.References.{RefersWithin};
+ghost use Rattle.pz_copy.specs.pz_state.References.{RefersWithin};
 
-use pz_value::Value;
+use pz_copy::pz_value::Value;
 
 /// If the value is a reference, it names one of so many objects.
 pub fn refers_within(value: &Value, count: u32) -> bool

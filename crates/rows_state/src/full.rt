@@ -1,7 +1,7 @@
 //! A state that is full.
 
-use pz_state::{MakeError, State};
-use pz_value::ClassId;
+use pz_copy::pz_state::{MakeError, State};
+use pz_copy::pz_value::ClassId;
 use std::io;
 
 /// Makes objects without items until none is made, and gives why.

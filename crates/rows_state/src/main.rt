@@ -9,7 +9,7 @@
 #![tactic(auto)]
 
 ghost use Rattle.std.specs.Prelude.{◌≡◌, IfOk, All, length};
-ghost use Rattle.pz_state.specs.References.{RefersWithin};
+ghost use Rattle.pz_copy.specs.pz_state.References.{RefersWithin};
 
 mod benches;
 mod changes;
@@ -21,9 +21,9 @@ mod parcels;
 mod show;
 mod subject;
 
+use pz_copy::pz_state::{MakeError, State};
+use pz_copy::pz_value::{ClassId, Text, Value};
 use pz_prims::{Prim, prim};
-use pz_state::{MakeError, State};
-use pz_value::{ClassId, Text, Value};
 use std::alloc::{AllocError, Global};
 use std::str::SplitWhitespace;
 use std::{env, io};

@@ -1,8 +1,8 @@
 //! States of objects of one class.
 
 use crate::conditions::refers_within;
-use pz_state::State;
-use pz_value::{ClassId, Text, Value};
+use pz_copy::pz_state::State;
+use pz_copy::pz_value::{ClassId, Text, Value};
 use std::alloc::{AllocError, Global};
 
 /// The class of the objects with two items.

@@ -3,8 +3,8 @@
 use crate::conditions::refer_within;
 use crate::nodes::{make_nodes, set};
 use pz_copy::pack;
-use pz_state::State;
-use pz_value::Value;
+use pz_copy::pz_state::State;
+use pz_copy::pz_value::Value;
 use std::alloc::{AllocError, Global};
 use std::io;
 

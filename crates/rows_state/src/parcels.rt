@@ -2,9 +2,9 @@
 
 use crate::conditions::refer_within;
 use crate::nodes::{class_names, nodes, set};
+use pz_copy::pz_state::State;
+use pz_copy::pz_value::{Text, Value};
 use pz_copy::{Parcel, pack, unpack};
-use pz_state::State;
-use pz_value::{Text, Value};
 use std::alloc::AllocError;
 use std::io;
 

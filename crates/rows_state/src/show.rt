@@ -1,4 +1,4 @@
-use pz_value::Value;
+use pz_copy::pz_value::Value;
 use std::io;
 
 /// The most bytes that are shown of a String.

@@ -1,10 +1,10 @@
 ghost use Rattle.std.specs.Prelude.{◌≡◌, true, length, Some};
 ghost use Rattle.std.specs.Option.{option_map};
-ghost use Rattle.pz_state.specs.States.{HasItem, locals_in};
+ghost use Rattle.pz_copy.specs.pz_state.States.{HasItem, locals_in};
 
 use crate::show;
-use pz_state::{FrameId, MakeError, Savepoint, State, nil_values};
-use pz_value::{ClassId, Value};
+use pz_copy::pz_state::{FrameId, MakeError, Savepoint, State, nil_values};
+use pz_copy::pz_value::{ClassId, Value};
 use std::alloc::{AllocError, Global};
 use std::io;
 use std::marker::Model;
@@ -34,7 +34,7 @@ pub struct Subject {
 }
 
 impl Model for Subject {
-    ghost use Rattle.pz_state.specs.Marks.{Seen};
+    ghost use Rattle.pz_copy.specs.pz_state.Marks.{Seen};
     ghost use Rattle.rows_state.specs.devices.Shadows.{IsShadowed};
 
     ghost Value = { Seen };

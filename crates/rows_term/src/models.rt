@@ -1,13 +1,13 @@
 //! From a text to the simulator of its model.
 
 ghost use Rattle.std.specs.Prelude.{◌≡◌, ◌<◌};
-ghost use Rattle.pz_classes.specs.CheckedView.{checked_model};
+ghost use Rattle.pz_bind.specs.pz_classes.CheckedView.{checked_model};
 ghost use Rattle.pz_classes_openings.specs.OpeningRules.{Opens};
 ghost use Rattle.pz_bind.specs.devices.Nets.{IsNet};
 
 use crate::plays::{Play, show_play};
 use pz_bind::Net;
-use pz_classes::Checked;
+use pz_bind::pz_classes::Checked;
 use pz_run_reading::{open_model, read_model};
 use pz_sim::Sim;
 use pz_term::{Edition, Limits, Plain, Simulator, Steps};

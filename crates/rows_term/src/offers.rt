@@ -1,11 +1,11 @@
 //! What a simulator says of where it stands.
 
 ghost use Rattle.std.specs.Prelude.{ℕ, ◌<◌};
-ghost use Rattle.pz_term_simulator.specs.Simulations.{IsMomentOf};
+ghost use Rattle.pz_sim.specs.pz_term_simulator.Simulations.{IsMomentOf};
 
-use pz_copy::Parcel;
-use pz_offer::End;
-use pz_syntax::Name;
+use pz_rules::pz_copy::Parcel;
+use pz_rules::pz_offer::End;
+use pz_rules::pz_syntax::Name;
 use pz_term::{Action, Moment, Simulator};
 use std::io;
 

@@ -1,7 +1,7 @@
 //! Steps of a simulator.
 
 ghost use Rattle.std.specs.Prelude.{◌≡◌, ◌<◌, ◌^◌, true};
-ghost use Rattle.pz_term_simulator.specs.Simulations.{clock_in};
+ghost use Rattle.pz_sim.specs.pz_term_simulator.Simulations.{clock_in};
 
 use crate::offers::{show_moment, show_offers};
 use crate::values::show_values;

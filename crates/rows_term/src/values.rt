@@ -1,7 +1,7 @@
 //! What the variables of a simulator's processes hold.
 
 ghost use Rattle.std.specs.Prelude.{◌≡◌, true};
-ghost use Rattle.pz_term_simulator.specs.Shown.{CanShow};
+ghost use Rattle.pz_sim.specs.pz_term_simulator.Shown.{CanShow};
 
 use pz_term::{Moment, Simulator};
 use std::io;

@@ -1,5 +1,5 @@
 use pz_check_components::components;
-use pz_items::Items;
+use pz_syntax::pz_items::Items;
 use std::alloc::{AllocError, Global};
 use std::test::Fail;
 

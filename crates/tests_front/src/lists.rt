@@ -1,4 +1,4 @@
-use pz_items::{Boxed, Items};
+use pz_syntax::pz_items::{Boxed, Items};
 use std::test::Fail;
 
 #[test]

@@ -1,10 +1,10 @@
 // One call of the files or one write that fails, each in turn, and all in parts of one byte. The model that is
 // run has 84 bytes, and its trace has 89 bytes in six lines.
-use crate::programs::{MODEL, TRACE, call, expect, expect_through, one_file};
 use pz_io::{FailingFiles, NarrowFiles, NarrowSink, RoomySink};
 use std::alloc::{AllocError, Global};
 use std::process::Abort;
 use std::test::Fail;
+use tests_run_calls::{MODEL, TRACE, call, expect, expect_through, one_file};
 
 // The files with the model, of which a read hands out at most so many bytes, and this call fails.
 fn narrow_files(

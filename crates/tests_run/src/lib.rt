@@ -1,4 +1,4 @@
-//! Tests of the top call.
+//! Tests of the top call: command lines, texts and failing calls.
 #![tactic(auto)]
 
 #[cfg(test)]
@@ -6,10 +6,4 @@ mod failures;
 #[cfg(test)]
 mod programs;
 #[cfg(test)]
-mod replays;
-#[cfg(test)]
-mod scripts;
-#[cfg(test)]
 mod simulators;
-#[cfg(test)]
-mod watches;

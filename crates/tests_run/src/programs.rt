@@ -1,92 +1,16 @@
 // What no clause says: that a call with ample memory does not answer want of it, and examples of each
 // answer, with the bytes that are printed.
-use pz_io::{Files, MemFiles, RoomySink, Sink};
-use pz_run::{Finish, run_program};
+use pz_io::RoomySink;
 use std::alloc::{AllocError, Global};
 use std::process::Abort;
 use std::test::Fail;
-
-pub(crate) const MODEL: &str =
-    "process class P\ninit a()()\nmethods a()()\nskip;\ndelay 3;\nskip\nsystem instances p : P\n";
-
-pub(crate) const TRACE: &str =
-    "poosl-trace 3 100000\n0 1 0 p skip 4:1\n0 time 3\n3 1 0 p expire 5:1\n3 1 0 p skip 6:1\n3 end\n";
+use tests_run_calls::{MODEL, TRACE, call, expect, one_file};
 
 const LAYOUT: &str =
     "process class P init a()()\nmethods a()() skip;\ndelay 3;\nskip\nsystem\ninstances p : P\n";
 
-// The words of a command line, with one blank between them.
-fn words_of(alloc: Global, line: &str) -> Result<Vec<String>, AllocError> {
-    let mut words = Vec::new(alloc);
-    for word in line.split(' ') {
-        words.push(String::from_str(alloc, word)?)?;
-    }
-    Ok(words)
-}
-
-// The files with one model, named `m`, blanks behind its text up to a length.
-pub(crate) fn one_file(alloc: Global, text: &str, length: usize) -> Result<MemFiles, AllocError> {
-    let mut bytes = text.as_bytes().to_vec(alloc)?;
-    let first = bytes.len();
-    for _ in first..length {
-        bytes.push(b' ')?;
-    }
-    let name = String::from_str(alloc, "m")?;
-    Ok(MemFiles::new(vec![in alloc; (name, bytes)]?))
-}
-
-// Calls the program with these words.
-pub(crate) fn finish<F: Files, W: Sink>(
-    alloc: Global,
-    line: &str,
-    files: &mut F,
-    out: &mut W,
-) -> Result<Finish, AllocError> {
-    let words = words_of(alloc, line)?;
-    Ok(run_program(alloc, &words, files, out))
-}
-
-// The same, and gives its exit status.
-pub(crate) fn call<F: Files, W: Sink>(
-    alloc: Global,
-    line: &str,
-    files: &mut F,
-    out: &mut W,
-) -> Result<u8, AllocError> {
-    let finish = finish(alloc, line, files, out)?;
-    Ok(finish.status.number())
-}
-
-// The same, and compares the status and what is printed. The listed writes fail.
-pub(crate) fn expect_through<F: Files>(
-    rt: &impl Abort,
-    alloc: Global,
-    line: &str,
-    files: &mut F,
-    writes: Vec<u64>,
-    status: u8,
-    output: &[u8],
-) -> Result<(), AllocError> {
-    let mut out = RoomySink::new(alloc, 100_000, writes)?;
-    assert_eq!(rt; call(alloc, line, files, &mut out)?, status, "{line}");
-    assert_eq!(rt; out.bytes(), output, "{line}");
-    Ok(())
-}
-
-// The same where no write fails.
-pub(crate) fn expect<F: Files>(
-    rt: &impl Abort,
-    alloc: Global,
-    line: &str,
-    files: &mut F,
-    status: u8,
-    output: &str,
-) -> Result<(), AllocError> {
-    let none = Vec::new(alloc);
-    expect_through(rt, alloc, line, files, none, status, output.as_bytes())
-}
-
-// The same for a model of this text.
+// Calls the program with these words on a model of this text, and compares the status and what is
+// printed.
 fn expect_of(
     rt: &impl Abort,
     alloc: Global,

@@ -1,10 +1,10 @@
 // The simulator that a call hands out.
-use crate::programs::finish;
 use pz_io::{MemFiles, RoomySink};
 use pz_rules::{Action, Kind, Moment};
 use pz_sim::Sim;
 use std::alloc::{AllocError, Global};
 use std::test::Fail;
+use tests_run_calls::finish;
 
 const MODEL: &str =
     "process class P\ninit a()()\nmethods a()()\npar b()() and b()() rap\nb()() skip\nsystem instances p : P\n";

@@ -1,5 +1,5 @@
 use crate::copying::parts::{Copied, copy_five, copy_four, copy_two};
-use pz_items::both;
+use pz_syntax::pz_items::both;
 use pz_syntax::{DataClass, DataMethod, Message, ProcessClass, ProcessMethod, Start, VarGroup};
 use std::alloc::{AllocError, Global};
 

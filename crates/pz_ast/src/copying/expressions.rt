@@ -1,7 +1,7 @@
 ghost use Rattle.std.specs.Prelude.{◌≡◌, IfOk};
 
 use crate::copying::parts::Copied;
-use pz_items::{Boxed, Items, both};
+use pz_syntax::pz_items::{Boxed, Items, both};
 use pz_syntax::{Expr, ExprForm, Link, Sending};
 use std::alloc::{AllocError, Global};
 

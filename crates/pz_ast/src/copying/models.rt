@@ -1,7 +1,7 @@
 ghost use Rattle.std.specs.Prelude.{◌≡◌, IfOk};
 
 use crate::copying::parts::{Copied, copy_five, copy_two};
-use pz_items::both;
+use pz_syntax::pz_items::both;
 use pz_syntax::{Arg, Channel, ChannelEnd, ClusterClass, Decl, Given, Instance, Model, SystemDecl};
 use std::alloc::{AllocError, Global};
 

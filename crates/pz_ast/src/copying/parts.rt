@@ -1,7 +1,7 @@
 ghost use Rattle.std.specs.Prelude.{◌≡◌, IfOk};
 
-use pz_items::{Boxed, Items, both};
 use pz_syntax::Id;
+use pz_syntax::pz_items::{Boxed, Items, both};
 use std::alloc::{AllocError, Global};
 
 /// What can be copied.

@@ -2,7 +2,7 @@ ghost use Rattle.std.specs.Prelude.{◌≡◌, IfOk};
 
 use crate::copying::expressions::copy_expression;
 use crate::copying::parts::{Copied, copy_five, copy_four, copy_two};
-use pz_items::{Boxed, Items, both};
+use pz_syntax::pz_items::{Boxed, Items, both};
 use pz_syntax::{Expr, Id, Stmt, StmtForm};
 use std::alloc::{AllocError, Global};
 

@@ -2,7 +2,7 @@ ghost use Rattle.std.specs.Prelude.{◌≡◌, suc, ◌<◌, ◌^◌, map};
 ghost use Rattle.pz_syntax.specs.ExpressionView.{view, list_view, part_view, link_view, sending_view, links_of, sendings_of};
 ghost use Rattle.pz_syntax.specs.ExpressionNesting.{nesting, nestings, otherwise_nesting, links_nesting, sendings_nesting, bracketed_nesting};
 
-use pz_items::{Boxed, Items};
+use pz_syntax::pz_items::{Boxed, Items};
 use pz_syntax::{Expr, ExprForm, Link, Sending};
 
 #[cycle(nest)]

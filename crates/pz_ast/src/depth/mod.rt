@@ -7,7 +7,7 @@ mod exprs;
 mod stmts;
 
 use exprs::exprs_nesting;
-use pz_items::Items;
+use pz_syntax::pz_items::Items;
 use pz_syntax::{DataMethod, Decl, Model, ProcessClass, ProcessMethod, Start};
 use stmts::stmts_nesting;
 

@@ -6,7 +6,7 @@ ghost use Rattle.pz_syntax.specs.StatementView.{view, sequence_view, branches_of
 ghost use Rattle.pz_syntax.specs.StatementNesting.{reception_nesting, nesting, nestings, branches_nesting};
 
 use super::exprs::{bracketed_nesting, expr_nesting, exprs_nesting};
-use pz_items::{Boxed, Items};
+use pz_syntax::pz_items::{Boxed, Items};
 use pz_syntax::{Expr, Id, Stmt, StmtForm};
 
 #[cycle(nest)]

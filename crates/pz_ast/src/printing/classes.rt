@@ -10,7 +10,7 @@ use super::marks::{
     put_separated, put_symbol, put_word,
 };
 use super::stmts::put_stmts;
-use pz_items::Items;
+use pz_syntax::pz_items::Items;
 use pz_syntax::{
     DataClass, DataMethod, Id, Keyword, Mark, Message, ProcessClass, ProcessMethod, Start, Symbol,
     VarGroup,

@@ -9,7 +9,7 @@ use super::marks::{
     Print, put, put_head, put_keyword, put_section_of_each, put_section_of_list, put_separated,
     put_symbol, put_word,
 };
-use pz_items::Items;
+use pz_syntax::pz_items::Items;
 use pz_syntax::{
     Arg, Channel, ChannelEnd, ClusterClass, Decl, Given, Instance, Keyword, Mark, Symbol,
     SystemDecl, TokenKind,

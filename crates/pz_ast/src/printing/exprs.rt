@@ -4,7 +4,7 @@ ghost use Rattle.pz_syntax.specs.ExpressionText.{literal_kind, text, texts, link
 ghost use Rattle.pz_syntax.specs.ExpressionView.{view, list_view, part_view, link_view, sending_view, links_of, sendings_of};
 
 use super::marks::{put, put_keyword, put_selector, put_symbol, put_word};
-use pz_items::{Boxed, Items};
+use pz_syntax::pz_items::{Boxed, Items};
 use pz_syntax::{Expr, ExprForm, Id, Keyword, Link, Literal, Mark, Sending, Symbol, TokenKind};
 use std::alloc::AllocError;
 

@@ -3,7 +3,7 @@ ghost use Rattle.pz_syntax.specs.Marks;
 ghost use Rattle.pz_syntax.specs.declared.tokens.Mark.{Mark};
 ghost use Rattle.pz_syntax.specs.Marks.{mark, symbol, keyword, word, head, selector, selector_head, separated, each_text, section, word_text};
 
-use pz_items::Items;
+use pz_syntax::pz_items::Items;
 use pz_syntax::{Id, Keyword, Mark, Symbol, TokenKind};
 use std::alloc::AllocError;
 

@@ -9,7 +9,7 @@ mod marks;
 mod stmts;
 
 use marks::put_each;
-use pz_items::Items;
+use pz_syntax::pz_items::Items;
 use pz_syntax::{Mark, Model};
 use std::alloc::{AllocError, Global};
 

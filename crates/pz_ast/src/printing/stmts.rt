@@ -9,7 +9,7 @@ ghost use Rattle.pz_syntax.specs.StatementView.{view, sequence_view, sequence_of
 
 use super::exprs::{put_arguments, put_bracketed, put_expr, put_exprs, put_test};
 use super::marks::{put_head, put_keyword, put_separated, put_symbol, put_word};
-use pz_items::{Boxed, Items};
+use pz_syntax::pz_items::{Boxed, Items};
 use pz_syntax::{Expr, Id, Keyword, Mark, Stmt, StmtForm, Symbol};
 use std::alloc::AllocError;
 

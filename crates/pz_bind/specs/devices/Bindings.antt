@@ -4,12 +4,12 @@ use Rattle.std.specs.Option.{option_map, unwrap_or}
 use Rattle.std.specs.Int.{w64, int_wrapping_neg}
 use Rattle.std.specs.Str.{bytes_eq}
 use Rattle.indexmap.specs.IndexMap.{get_by}
-use Rattle.pz_value.specs.declared.value.Value.{Value}
-use Rattle.pz_value.specs.declared.value.Value.TheVariants.{Nil, Int}
+use Rattle.pz_bind_rules.specs.pz_value.declared.value.Value.{Value}
+use Rattle.pz_bind_rules.specs.pz_value.declared.value.Value.TheVariants.{Nil, Int}
 use Rattle.pz_bind.specs.declared.bindings.Meaning.{Meaning}
 use Rattle.pz_bind.specs.declared.bindings.Meaning.TheVariants.{Nothing, Plain, Negated}
 use Rattle.pz_bind.specs.declared.bindings.Bindings.{Bindings}
-use Rattle.pz_classes_code.specs.Literals.{constant}
+use Rattle.pz_bind_rules.specs.pz_classes_code.Literals.{constant}
 
 abbrev pub meaning_value : Meaning → Value
 meaning_value Nothing = Nil

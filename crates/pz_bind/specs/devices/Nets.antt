@@ -1,17 +1,17 @@
 -- What is kept of the net of a model.
 use Rattle.std.specs.Prelude.{◌≡◌, map}
-use Rattle.pz_syntax.specs.Classes.{ModelTree}
-use Rattle.pz_classes.specs.Tables.{class_id}
-use Rattle.pz_classes.specs.SoundSystem.{SystemFits}
-use Rattle.pz_classes.specs.SoundClasses.{ClassesFit}
+use Rattle.pz_bind_rules.specs.pz_syntax.Classes.{ModelTree}
+use Rattle.pz_bind_rules.specs.pz_classes_rules.ClassNames.{class_id}
+use Rattle.pz_bind_rules.specs.pz_classes_rules.SoundSystem.{SystemFits}
+use Rattle.pz_bind_rules.specs.pz_classes_rules.SoundClasses.{ClassesFit}
 use Rattle.pz_bind_levels.specs.Places.{Address}
 use Rattle.pz_bind_levels.specs.devices.Expanded.{IsExpansion}
 use Rattle.pz_bind_levels.specs.devices.Walking.{layouts_of}
-use Rattle.pz_bind.specs.Nest.{system_class, class_at, processes}
-use Rattle.pz_bind.specs.Names.{path, wire_name}
-use Rattle.pz_bind.specs.Values.{values_at}
-use Rattle.pz_bind.specs.Wires.{wires}
-use Rattle.pz_bind.specs.devices.Layouts.{layouts}
+use Rattle.pz_bind_rules.specs.Nest.{system_class, class_at, processes}
+use Rattle.pz_bind_rules.specs.Names.{path, wire_name}
+use Rattle.pz_bind_rules.specs.Values.{values_at}
+use Rattle.pz_bind_rules.specs.Wires.{wires}
+use Rattle.pz_bind_rules.specs.devices.Layouts.{layouts}
 use Rattle.pz_bind.specs.declared.net.Node.{Node}
 use Rattle.pz_bind.specs.declared.net.Net.{Net}
 

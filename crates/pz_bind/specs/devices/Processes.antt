@@ -1,12 +1,12 @@
 -- What an expansion says of the processes and the wires of a system.
 use Rattle.std.specs.Prelude.{◌≡◌, ◌<◌, ℕ, List, ◌∷◌, length, Some, slice_get}
-use Rattle.pz_syntax.specs.Classes.{ModelTree}
+use Rattle.pz_bind_rules.specs.pz_syntax.Classes.{ModelTree}
 use Rattle.pz_bind_levels.specs.declared.expansion.Process.{Process}
 use Rattle.pz_bind_levels.specs.declared.expansion.Wire.{Wire}
 use Rattle.pz_bind_levels.specs.Places.{Address}
 use Rattle.pz_bind_levels.specs.Wires.{Channel}
-use Rattle.pz_bind.specs.Nest.{class_at, instances_at, levels, processes}
-use Rattle.pz_bind.specs.Wires.{wires}
+use Rattle.pz_bind_rules.specs.Nest.{class_at, instances_at, levels, processes}
+use Rattle.pz_bind_rules.specs.Wires.{wires}
 
 -- a process of the expansion stands at this place
 pub record IsProcessAt (m : ModelTree) (p : Process) (place : Address) : Type 0 where

@@ -1,14 +1,14 @@
 -- What the code keeps of the levels of a system.
 use Rattle.std.specs.Prelude.{◌≡◌, ◌<◌, ℕ, Bool, true, false, List, [], ◌∷◌, ◌++◌, codes, length, Option, Some, None, slice_get, if◌then◌else◌}
-use Rattle.pz_syntax.specs.Classes.{ModelTree}
+use Rattle.pz_bind_rules.specs.pz_syntax.Classes.{ModelTree}
 use Rattle.pz_bind_levels.specs.declared.expansion.Standing.{Standing}
 use Rattle.pz_bind_levels.specs.declared.expansion.Level.{Level}
 use Rattle.pz_bind_levels.specs.Places.{Address}
 use Rattle.pz_bind_levels.specs.devices.Expanded.{EachOf}
-use Rattle.pz_value.specs.declared.value.Value.TheVariants.{Nil}
-use Rattle.pz_bind.specs.Nest.{class_at, instances_in, instances_at, levels}
-use Rattle.pz_bind.specs.Names.{path}
-use Rattle.pz_bind.specs.Values.{parameter_at}
+use Rattle.pz_bind_rules.specs.pz_value.declared.value.Value.TheVariants.{Nil}
+use Rattle.pz_bind_rules.specs.Nest.{class_at, instances_in, instances_at, levels}
+use Rattle.pz_bind_rules.specs.Names.{path}
+use Rattle.pz_bind_rules.specs.Values.{parameter_at}
 use Rattle.pz_bind.specs.devices.Bindings.{value_in}
 use Rattle.pz_bind.specs.declared.sites.Site.{Site}
 

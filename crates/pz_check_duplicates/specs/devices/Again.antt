@@ -2,7 +2,7 @@
 -- those before them that are the same: violations such that none comes before all of them. A device
 -- of the proofs.
 use Rattle.std.specs.Prelude.{ℕ, Bool, List, [], ◌∷◌, ◌++◌, Option, Some, None, if◌then◌else◌}
-use Rattle.pz_syntax.specs.declared.tokens.Pos.{Pos}
+use Rattle.pz_classes.specs.pz_syntax.declared.tokens.Pos.{Pos}
 use Rattle.pz_check_violations.specs.declared.violation.Violation.{Violation}
 use Rattle.pz_check_violations.specs.Order.{violation, pos_before}
 use Rattle.pz_check_duplicates.specs.declared.places.Thing.{Thing}

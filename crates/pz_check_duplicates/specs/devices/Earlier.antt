@@ -1,6 +1,6 @@
 -- The earliest place of things that are alike.
 use Rattle.std.specs.Prelude.{Bool, List, [], ◌∷◌, Option, Some, None, if◌then◌else◌}
-use Rattle.pz_syntax.specs.declared.tokens.Pos.{Pos}
+use Rattle.pz_classes.specs.pz_syntax.declared.tokens.Pos.{Pos}
 use Rattle.pz_check_violations.specs.Order.{pos_before}
 
 -- the earlier place, the first where neither is earlier

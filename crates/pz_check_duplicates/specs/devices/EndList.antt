@@ -1,12 +1,12 @@
 -- Violations of C17 as a list, such that no violation comes before all of them: a device of the proofs.
 use Rattle.std.specs.Prelude.{List, [], ◌++◌, if◌then◌else◌}
 use Rattle.std.specs.List.{flat_map}
-use Rattle.pz_syntax.specs.declared.clusters.Channel.{Channel}
-use Rattle.pz_syntax.specs.Classes.{DeclTree, ModelTree}
+use Rattle.pz_classes.specs.pz_syntax.declared.clusters.Channel.{Channel}
+use Rattle.pz_classes.specs.pz_syntax.Classes.{DeclTree, ModelTree}
 use Rattle.pz_check_violations.specs.declared.violation.Violation.{Violation}
-use Rattle.pz_classes.specs.Kinds.{is_cluster}
-use Rattle.pz_classes.specs.Instances.{channels}
-use Rattle.pz_classes.specs.ChannelRules.{end_place, ends, same_end, both_outer}
+use Rattle.pz_classes.specs.pz_classes_rules.Kinds.{is_cluster}
+use Rattle.pz_classes.specs.pz_classes_rules.Instances.{channels}
+use Rattle.pz_classes.specs.pz_classes_rules.ChannelRules.{end_place, ends, same_end, both_outer}
 use Rattle.pz_check_duplicates.specs.devices.Again.{repeats}
 
 -- those of two ports of the cluster class itself

@@ -1,7 +1,7 @@
 -- Methods in a list, as things.
-use Rattle.pz_syntax.specs.declared.tokens.Pos.{Pos}
-use Rattle.pz_classes.specs.declared.method_id.Counts.TheVariants.{Data, Process}
-use Rattle.pz_classes.specs.RepeatRules.{Heading}
+use Rattle.pz_classes.specs.pz_syntax.declared.tokens.Pos.{Pos}
+use Rattle.pz_classes.specs.pz_classes_rules.declared.method_id.Counts.TheVariants.{Data, Process}
+use Rattle.pz_classes.specs.pz_classes_rules.RepeatRules.{Heading}
 use Rattle.pz_check_duplicates.specs.declared.methods.MethodKey.{MethodKey}
 use Rattle.pz_check_duplicates.specs.declared.methods.MethodKey.TheVariants as key
 use Rattle.pz_check_duplicates.specs.declared.places.Thing.{Thing}

@@ -1,10 +1,10 @@
 -- What is found where names are declared one after another: a device of the proofs.
 use Rattle.std.specs.Prelude.{ℕ, List, Option}
 use Rattle.std.specs.Str.{bytes_eq}
-use Rattle.pz_syntax.specs.declared.tokens.Pos.{Pos}
-use Rattle.pz_syntax.specs.declared.names.Id.{Id}
+use Rattle.pz_classes.specs.pz_syntax.declared.tokens.Pos.{Pos}
+use Rattle.pz_classes.specs.pz_syntax.declared.names.Id.{Id}
 use Rattle.pz_check_violations.specs.declared.violation.Violation.{Violation}
-use Rattle.pz_classes.specs.RepeatRules.{same_name}
+use Rattle.pz_classes.specs.pz_classes_rules.RepeatRules.{same_name}
 use Rattle.pz_check_duplicates.specs.devices.Earlier.{earliest_of}
 use Rattle.pz_check_duplicates.specs.devices.Again as again
 use Rattle.pz_check_duplicates.specs.devices.Names.{id_place}

@@ -1,8 +1,8 @@
 -- Names in a list, as things.
 use Rattle.std.specs.Prelude.{ℕ, List}
 use Rattle.std.specs.Borrow.{Bor}
-use Rattle.pz_syntax.specs.declared.tokens.Pos.{Pos}
-use Rattle.pz_syntax.specs.declared.names.Id.{Id}
+use Rattle.pz_classes.specs.pz_syntax.declared.tokens.Pos.{Pos}
+use Rattle.pz_classes.specs.pz_syntax.declared.names.Id.{Id}
 use Rattle.pz_check_duplicates.specs.declared.places.Thing.{Thing}
 
 abbrev pub id_place : Id → Pos

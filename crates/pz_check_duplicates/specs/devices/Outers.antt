@@ -1,9 +1,9 @@
 -- The ports of a cluster class in a channel, by where they stand.
 use Rattle.std.specs.Prelude.{Bool, true, List, [], ◌∷◌}
 use Rattle.std.specs.List.{flat_map}
-use Rattle.pz_syntax.specs.declared.tokens.Pos.{Pos}
-use Rattle.pz_syntax.specs.declared.clusters.ChannelEnd.{ChannelEnd}
-use Rattle.pz_syntax.specs.declared.clusters.ChannelEnd.TheVariants.{Inner, Outer}
+use Rattle.pz_classes.specs.pz_syntax.declared.tokens.Pos.{Pos}
+use Rattle.pz_classes.specs.pz_syntax.declared.clusters.ChannelEnd.{ChannelEnd}
+use Rattle.pz_classes.specs.pz_syntax.declared.clusters.ChannelEnd.TheVariants.{Inner, Outer}
 
 abbrev pub outer_place : ChannelEnd → List Pos
 outer_place (Inner i port) = []

@@ -1,9 +1,9 @@
 -- Ends of channels, as far as one can repeat another.
 use Rattle.std.specs.Prelude.{ℕ, Bool, false, ◌&&◌, List}
 use Rattle.std.specs.Str.{bytes_eq}
-use Rattle.pz_syntax.specs.declared.tokens.Pos.{Pos}
-use Rattle.pz_syntax.specs.declared.clusters.ChannelEnd.{ChannelEnd}
-use Rattle.pz_syntax.specs.declared.clusters.ChannelEnd.TheVariants.{Inner, Outer}
+use Rattle.pz_classes.specs.pz_syntax.declared.tokens.Pos.{Pos}
+use Rattle.pz_classes.specs.pz_syntax.declared.clusters.ChannelEnd.{ChannelEnd}
+use Rattle.pz_classes.specs.pz_syntax.declared.clusters.ChannelEnd.TheVariants.{Inner, Outer}
 use Rattle.pz_check_duplicates.specs.declared.ends.EndKey.{EndKey}
 use Rattle.pz_check_duplicates.specs.declared.ends.EndKey.TheVariants as key
 use Rattle.pz_check_duplicates.specs.declared.places.Thing.{Thing}

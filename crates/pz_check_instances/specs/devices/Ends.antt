@@ -3,18 +3,18 @@
 use Rattle.std.specs.Prelude.{ℕ, suc, Bool, true, false, not, nat_eq, List, [], ◌∷◌, ◌++◌, Option, Some, None, if◌then◌else◌}
 use Rattle.std.specs.List.{flat_map}
 use Rattle.std.specs.Str.{bytes_eq}
-use Rattle.pz_syntax.specs.declared.tokens.Pos.{Pos}
-use Rattle.pz_syntax.specs.declared.clusters.Instance.{Instance}
-use Rattle.pz_syntax.specs.declared.clusters.ChannelEnd.{ChannelEnd}
-use Rattle.pz_syntax.specs.declared.clusters.ChannelEnd.TheVariants.{Inner, Outer}
-use Rattle.pz_syntax.specs.Classes.{DeclTree, ModelTree}
+use Rattle.pz_classes_code.specs.pz_syntax.declared.tokens.Pos.{Pos}
+use Rattle.pz_classes_code.specs.pz_syntax.declared.clusters.Instance.{Instance}
+use Rattle.pz_classes_code.specs.pz_syntax.declared.clusters.ChannelEnd.{ChannelEnd}
+use Rattle.pz_classes_code.specs.pz_syntax.declared.clusters.ChannelEnd.TheVariants.{Inner, Outer}
+use Rattle.pz_classes_code.specs.pz_syntax.Classes.{DeclTree, ModelTree}
 use Rattle.pz_classes_lineage.specs.declared.visit.Visit.{Visit}
-use Rattle.pz_check_violations.specs.declared.violation.Violation.{Violation}
-use Rattle.pz_check_violations.specs.Order.{violation}
-use Rattle.pz_check_violations.specs.Least.{listed}
-use Rattle.pz_classes.specs.Members.{ports}
-use Rattle.pz_classes.specs.Words.{is_among}
-use Rattle.pz_classes.specs.ChannelRules.{ends, end_place}
+use Rattle.pz_classes.specs.pz_check_violations.declared.violation.Violation.{Violation}
+use Rattle.pz_classes.specs.pz_check_violations.Order.{violation}
+use Rattle.pz_classes.specs.pz_check_violations.Least.{listed}
+use Rattle.pz_classes.specs.pz_classes_rules.Members.{ports}
+use Rattle.pz_classes.specs.pz_classes_rules.Words.{is_among}
+use Rattle.pz_classes.specs.pz_classes_rules.ChannelRules.{ends, end_place}
 use Rattle.pz_check_instances.specs.declared.needs.Need.{Need}
 use Rattle.pz_check_instances.specs.declared.needs.Need.TheVariants.{Nothing, Port, Missing}
 use Rattle.pz_check_instances.specs.devices.Needs.{need}

@@ -1,15 +1,15 @@
 -- How the code sees that an instance gives each parameter once: a device of the proofs.
 use Rattle.std.specs.Prelude.{ℕ, Bool, true, false, not, ◌&&◌, nat_eq, List, [], ◌∷◌, ◌++◌, length, Option, Some, None, if◌then◌else◌}
 use Rattle.std.specs.List.{flat_map}
-use Rattle.pz_syntax.specs.declared.clusters.Instance.{Instance}
-use Rattle.pz_syntax.specs.Classes.{ModelTree}
+use Rattle.pz_classes_code.specs.pz_syntax.declared.clusters.Instance.{Instance}
+use Rattle.pz_classes_code.specs.pz_syntax.Classes.{ModelTree}
 use Rattle.pz_classes_lineage.specs.declared.visit.Visit.{Visit}
-use Rattle.pz_check_violations.specs.declared.violation.Violation.{Violation}
-use Rattle.pz_check_violations.specs.Order.{violation}
-use Rattle.pz_check_violations.specs.Least.{listed}
-use Rattle.pz_classes.specs.Members.{spelled}
-use Rattle.pz_classes.specs.Instances.{instances, instance_class, parameters}
-use Rattle.pz_classes.specs.InstanceRules.{given_names, gives_each}
+use Rattle.pz_classes.specs.pz_check_violations.declared.violation.Violation.{Violation}
+use Rattle.pz_classes.specs.pz_check_violations.Order.{violation}
+use Rattle.pz_classes.specs.pz_check_violations.Least.{listed}
+use Rattle.pz_classes.specs.pz_classes_rules.Members.{spelled}
+use Rattle.pz_classes.specs.pz_classes_rules.Instances.{instances, instance_class, parameters}
+use Rattle.pz_classes.specs.pz_classes_rules.InstanceRules.{given_names, gives_each}
 use Rattle.pz_check_instances.specs.devices.NameSets.{has_name}
 
 -- each of the names that are given behind those that were seen is wanted, and none comes again

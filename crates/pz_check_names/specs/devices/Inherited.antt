@@ -2,14 +2,14 @@
 use Rattle.std.specs.Prelude.{ℕ, List, [], map, Option}
 use Rattle.std.specs.Option.{unwrap_or, option_map_or, option_and_then, option_to_list}
 use Rattle.std.specs.List.{flat_map}
-use Rattle.pz_syntax.specs.declared.classes.Message.{Message}
-use Rattle.pz_syntax.specs.Classes.{DeclTree, process_class, ProcessMethodTree, StartTree, ModelTree}
-use Rattle.pz_classes.specs.declared.method_id.MethodId.{MethodId}
-use Rattle.pz_classes.specs.Numbers.{declaration}
-use Rattle.pz_classes.specs.Members.{own_fields, own_variables, own_ports}
-use Rattle.pz_classes.specs.Methods.{Signature, own_method, nearest}
-use Rattle.pz_classes.specs.CallRules.{own_messages}
-use Rattle.pz_classes.specs.Starts.{own_start}
+use Rattle.pz_classes_code.specs.pz_syntax.declared.classes.Message.{Message}
+use Rattle.pz_classes_code.specs.pz_syntax.Classes.{DeclTree, process_class, ProcessMethodTree, StartTree, ModelTree}
+use Rattle.pz_classes.specs.pz_classes_rules.declared.method_id.MethodId.{MethodId}
+use Rattle.pz_classes.specs.pz_classes_rules.Numbers.{declaration}
+use Rattle.pz_classes.specs.pz_classes_rules.Members.{own_fields, own_variables, own_ports}
+use Rattle.pz_classes.specs.pz_classes_rules.Methods.{Signature, own_method, nearest}
+use Rattle.pz_classes.specs.pz_classes_rules.CallRules.{own_messages}
+use Rattle.pz_classes.specs.pz_classes_rules.Starts.{own_start}
 use Rattle.pz_check_names.specs.devices.Shown.{ShowsNames, ShowsMessages, ShowsMethods, ShowsStarts}
 use Rattle.pz_check_names.specs.declared.inherited.Inherited.{Inherited}
 

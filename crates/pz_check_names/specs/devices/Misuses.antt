@@ -2,18 +2,18 @@
 use Rattle.std.specs.Prelude.{ℕ, List, [], ◌++◌}
 use Rattle.std.specs.List.{flat_map}
 use Rattle.std.specs.Option.{option_map_or}
-use Rattle.pz_syntax.specs.declared.names.Id.{Id}
-use Rattle.pz_syntax.specs.Classes.{DeclTree, ModelTree}
+use Rattle.pz_classes_code.specs.pz_syntax.declared.names.Id.{Id}
+use Rattle.pz_classes_code.specs.pz_syntax.Classes.{DeclTree, ModelTree}
 use Rattle.pz_check_violations.specs.declared.violation.Violation.{Violation}
 use Rattle.pz_check_violations.specs.Order.{violation}
 use Rattle.pz_check_violations.specs.Least.{listed}
 use Rattle.pz_classes_mentions.specs.declared.mention.Mention.{Mention}
 use Rattle.pz_classes_mentions.specs.declared.local_scope.LocalScope.{LocalScope}
 use Rattle.pz_classes_mentions.specs.Declarations.{parts}
-use Rattle.pz_classes.specs.Numbers.{declaration}
-use Rattle.pz_classes.specs.Words.{place}
-use Rattle.pz_classes.specs.NameRules.{breaks_c5, breaks_c6, breaks_c12, breaks_c13, breaks_c18, breaks_c21, breaks_c22}
-use Rattle.pz_classes.specs.CallRules.{breaks_c7, breaks_c8, breaks_c9, breaks_c10, breaks_c11}
+use Rattle.pz_classes.specs.pz_classes_rules.Numbers.{declaration}
+use Rattle.pz_classes.specs.pz_classes_rules.Words.{place}
+use Rattle.pz_classes.specs.pz_classes_rules.NameRules.{breaks_c5, breaks_c6, breaks_c12, breaks_c13, breaks_c18, breaks_c21, breaks_c22}
+use Rattle.pz_classes.specs.pz_classes_rules.CallRules.{breaks_c7, breaks_c8, breaks_c9, breaks_c10, breaks_c11}
 
 module _ (m : ModelTree) (c : ℕ) (d : DeclTree) where
   -- the rules that ask which name it is

@@ -1,12 +1,12 @@
 -- What the code knows of a model and of a class when it comes to a word.
 use Rattle.std.specs.Prelude.{◌≡◌, ℕ, Bool, List, [], ◌∷◌}
 use Rattle.std.specs.List.{list_any}
-use Rattle.pz_syntax.specs.Classes.{DeclTree, ModelTree}
-use Rattle.pz_syntax.specs.ClassView.{decl_view, model_view}
-use Rattle.pz_classes.specs.declared.method_id.Counts.TheVariants.{Data}
-use Rattle.pz_classes.specs.Ancestors.{ancestors}
-use Rattle.pz_classes.specs.Methods.{Signature, same_signature}
-use Rattle.pz_classes.specs.CallRules.{is_declared}
+use Rattle.pz_classes_code.specs.pz_syntax.Classes.{DeclTree, ModelTree}
+use Rattle.pz_classes_code.specs.pz_syntax.ClassView.{decl_view, model_view}
+use Rattle.pz_classes.specs.pz_classes_rules.declared.method_id.Counts.TheVariants.{Data}
+use Rattle.pz_classes.specs.pz_classes_rules.Ancestors.{ancestors}
+use Rattle.pz_classes.specs.pz_classes_rules.Methods.{Signature, same_signature}
+use Rattle.pz_classes.specs.pz_classes_rules.CallRules.{is_declared}
 use Rattle.pz_classes.specs.devices.Rows.{AreClasses}
 use Rattle.pz_check_names.specs.devices.Sets.{has_selector}
 use Rattle.pz_check_names.specs.devices.Shown.{ShowsNames}

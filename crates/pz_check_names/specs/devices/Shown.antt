@@ -4,12 +4,12 @@ use Rattle.std.specs.Bool.{beq}
 use Rattle.std.specs.Borrow.{Bor}
 use Rattle.std.specs.List.{list_any}
 use Rattle.std.specs.Str.{bytes_eq}
-use Rattle.pz_syntax.specs.declared.names.Id.{Id}
-use Rattle.pz_syntax.specs.declared.classes.Message.{Message}
-use Rattle.pz_syntax.specs.Classes.{ProcessMethodTree, StartTree}
-use Rattle.pz_classes.specs.declared.method_id.Counts.TheVariants.{Process}
-use Rattle.pz_classes.specs.CallRules.{is_message}
-use Rattle.pz_classes.specs.Methods.{Signature, same_signature, process_signature}
+use Rattle.pz_classes_code.specs.pz_syntax.declared.names.Id.{Id}
+use Rattle.pz_classes_code.specs.pz_syntax.declared.classes.Message.{Message}
+use Rattle.pz_classes_code.specs.pz_syntax.Classes.{ProcessMethodTree, StartTree}
+use Rattle.pz_classes.specs.pz_classes_rules.declared.method_id.Counts.TheVariants.{Process}
+use Rattle.pz_classes.specs.pz_classes_rules.CallRules.{is_message}
+use Rattle.pz_classes.specs.pz_classes_rules.Methods.{Signature, same_signature, process_signature}
 use Rattle.pz_check_scopes.specs.Scopes.{Note}
 use Rattle.pz_check_scopes.specs.devices.Holding.{Holds}
 use Rattle.pz_check_scopes.specs.declared.nested.Nested.{Nested}

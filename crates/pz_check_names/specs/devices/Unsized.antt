@@ -1,11 +1,11 @@
 -- Whether C13 or C18 is broken, word by word, as a device of the proofs.
 use Rattle.std.specs.Prelude.{Bool, ◌||◌}
 use Rattle.std.specs.List.{list_any}
-use Rattle.pz_syntax.specs.Classes.{DeclTree, ModelTree}
+use Rattle.pz_classes_code.specs.pz_syntax.Classes.{DeclTree, ModelTree}
 use Rattle.pz_classes_mentions.specs.declared.mention.Mention.{Mention}
 use Rattle.pz_classes_mentions.specs.declared.local_scope.LocalScope.{LocalScope}
 use Rattle.pz_classes_mentions.specs.Declarations.{parts}
-use Rattle.pz_classes.specs.NameRules.{breaks_c13, breaks_c18}
+use Rattle.pz_classes.specs.pz_classes_rules.NameRules.{breaks_c13, breaks_c18}
 
 abbrev pub is_unsized : ModelTree → Mention → Bool
 is_unsized m x = breaks_c13 m x || breaks_c18 x

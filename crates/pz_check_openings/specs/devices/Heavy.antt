@@ -2,7 +2,7 @@
 -- proofs. Names have bounds for how much their methods open as, and marks where they are reached.
 use Rattle.std.specs.Prelude.{◌≡◌, ◌+◌, ℕ, Bool, true, ◌&&◌, ◌||◌, not, nat_le, nat_lt, min, fold, List, map, Option, Some, IsTrue, slice_get}
 use Rattle.std.specs.List.{sum_by}
-use Rattle.pz_syntax.specs.declared.names.Id.{Id}
+use Rattle.pz_classes.specs.pz_syntax.declared.names.Id.{Id}
 use Rattle.pz_check_openings.specs.declared.outline.Outline.{Outline}
 use Rattle.pz_check_openings.specs.devices.Settling.{is_plain}
 use Rattle.pz_check_openings.specs.devices.Suspects.{kept}

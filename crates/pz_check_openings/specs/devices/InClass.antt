@@ -1,13 +1,13 @@
 -- The methods as they call each other in one class, as a device of the proofs.
 use Rattle.std.specs.Prelude.{◌≡◌, ◌<◌, ℕ, Bool, false, nat_eq, List, [], ◌∷◌, ◌++◌, map, Option, Some, None, IsTrue, slice_get}
 use Rattle.std.specs.Option.{option_map_or}
-use Rattle.pz_syntax.specs.declared.names.Id.{Id}
-use Rattle.pz_syntax.specs.Classes.{DeclTree, ModelTree}
-use Rattle.pz_check_violations.specs.declared.violation.Violation.{Violation}
-use Rattle.pz_check_violations.specs.Order.{violation}
-use Rattle.pz_classes.specs.Numbers.{declaration}
-use Rattle.pz_classes.specs.Kinds.{is_process}
-use Rattle.pz_classes.specs.Methods.{method_id, process_method}
+use Rattle.pz_classes.specs.pz_syntax.declared.names.Id.{Id}
+use Rattle.pz_classes.specs.pz_syntax.Classes.{DeclTree, ModelTree}
+use Rattle.pz_classes.specs.pz_check_violations.declared.violation.Violation.{Violation}
+use Rattle.pz_classes.specs.pz_check_violations.Order.{violation}
+use Rattle.pz_classes.specs.pz_classes_rules.Numbers.{declaration}
+use Rattle.pz_classes.specs.pz_classes_rules.Kinds.{is_process}
+use Rattle.pz_classes.specs.pz_classes_rules.Methods.{method_id, process_method}
 use Rattle.pz_classes_openings.specs.Openings.{called}
 use Rattle.pz_check_calls.specs.declared.graph.Call.{Call}
 use Rattle.pz_check_calls.specs.declared.graph.Method.{Method}

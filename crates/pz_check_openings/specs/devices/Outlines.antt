@@ -2,8 +2,8 @@
 use Rattle.std.specs.Prelude.{ℕ, zero, suc, List, [], ◌∷◌, length, map, min, Option, Some, None}
 use Rattle.std.specs.Option.{unwrap_or}
 use Rattle.std.specs.List.{flat_map}
-use Rattle.pz_syntax.specs.Classes.{DeclTree, data_class, process_class, ProcessMethodTree, ModelTree}
-use Rattle.pz_classes.specs.Members.{grouped}
+use Rattle.pz_classes.specs.pz_syntax.Classes.{DeclTree, data_class, process_class, ProcessMethodTree, ModelTree}
+use Rattle.pz_classes.specs.pz_classes_rules.Members.{grouped}
 use Rattle.pz_classes_beginnings.specs.Beginning.{begun_all, all_plain_calls, statements_in_all}
 use Rattle.pz_check_openings.specs.declared.outline.Outline.{Outline}
 

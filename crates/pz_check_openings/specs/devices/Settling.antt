@@ -2,8 +2,8 @@
 use Rattle.std.specs.Prelude.{◌≡◌, ◌≤◌, ◌+◌, ℕ, Bool, ◌&&◌, nat_eq, List, IsTrue}
 use Rattle.std.specs.Option.{option_map_or}
 use Rattle.std.specs.List.{sum_by}
-use Rattle.pz_classes_code.specs.declared.numbering.Numbering.{Numbering}
-use Rattle.pz_classes_code.specs.NumberIn.{number_in}
+use Rattle.pz_classes.specs.pz_classes_code.declared.numbering.Numbering.{Numbering}
+use Rattle.pz_classes.specs.pz_classes_code.NumberIn.{number_in}
 use Rattle.pz_check_calls.specs.Calls.{total_in}
 use Rattle.pz_check_openings.specs.declared.outline.Outline.{Outline}
 

@@ -2,10 +2,10 @@
 use Rattle.std.specs.Prelude.{ℕ, false, List, [], ◌∷◌, map, length, slice_get}
 use Rattle.std.specs.List.{flat_map}
 use Rattle.std.specs.Option.{option_map_or}
-use Rattle.pz_syntax.specs.declared.clusters.Instance.{Instance}
-use Rattle.pz_syntax.specs.Classes.{DeclTree, data_class, process_class, cluster_class, system, ModelTree}
-use Rattle.pz_classes.specs.Kinds.{is_cluster}
-use Rattle.pz_classes.specs.Instances.{instances, channels, instance_class}
+use Rattle.pz_classes.specs.pz_syntax.declared.clusters.Instance.{Instance}
+use Rattle.pz_classes.specs.pz_syntax.Classes.{DeclTree, data_class, process_class, cluster_class, system, ModelTree}
+use Rattle.pz_classes.specs.pz_classes_rules.Kinds.{is_cluster}
+use Rattle.pz_classes.specs.pz_classes_rules.Instances.{instances, channels, instance_class}
 use Rattle.pz_check_size.specs.declared.nodes.Held.{Held}
 use Rattle.pz_check_size.specs.declared.nodes.Node.{Node}
 use Rattle.pz_check_size.specs.declared.totals.Totals.{Totals}

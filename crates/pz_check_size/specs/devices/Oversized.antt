@@ -1,6 +1,6 @@
 -- The systems whose totals are above a limit, as a device of the proofs.
 use Rattle.std.specs.Prelude.{ℕ, suc, List, [], ◌++◌, ◌∷◌}
-use Rattle.pz_syntax.specs.Classes.{DeclTree, system}
+use Rattle.pz_classes.specs.pz_syntax.Classes.{DeclTree, system}
 use Rattle.pz_check_violations.specs.declared.violation.Violation.{Violation}
 use Rattle.pz_check_violations.specs.Order.{violation}
 use Rattle.pz_check_violations.specs.Least.{listed}

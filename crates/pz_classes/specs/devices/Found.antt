@@ -2,9 +2,9 @@
 use Rattle.std.specs.Prelude.{ℕ, List, length, Option, slice_get}
 use Rattle.std.specs.Option.{option_and_then}
 use Rattle.pz_classes_code.specs.StepView.{Tree}
-use Rattle.pz_classes.specs.declared.method_id.MethodId.{MethodId}
-use Rattle.pz_classes.specs.Ancestors.{followed}
-use Rattle.pz_classes.specs.Methods.{Signature, nearest}
+use Rattle.pz_classes_rules.specs.declared.method_id.MethodId.{MethodId}
+use Rattle.pz_classes_rules.specs.Ancestors.{followed}
+use Rattle.pz_classes_rules.specs.Methods.{Signature, nearest}
 use Rattle.pz_classes.specs.devices.Rows.{Row}
 
 abbrev pub up_in : List Row → ℕ → Option ℕ

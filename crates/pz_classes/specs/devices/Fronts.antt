@@ -2,9 +2,9 @@
 use Rattle.std.specs.Prelude.{◌≡◌, ◌<◌, ◌≤◌, ◌+◌, ◌++◌, ℕ, suc, List, [], length, map, take, slice_get, Option, Some, Contains}
 use Rattle.std.specs.List.{All}
 use Rattle.std.specs.Option.{option_and_then, option_map_or, unwrap_or, IsSome}
-use Rattle.pz_syntax.specs.Classes.{ModelTree}
+use Rattle.pz_classes_code.specs.pz_syntax.Classes.{ModelTree}
 use Rattle.pz_classes_code.specs.Listed.{Listed}
-use Rattle.pz_classes.specs.Ancestors.{parent, ancestors}
+use Rattle.pz_classes_rules.specs.Ancestors.{parent, ancestors}
 use Rattle.pz_classes.specs.declared.members.Members.{Members}
 use Rattle.pz_classes.specs.declared.members.Lengths.{Lengths}
 use Rattle.pz_classes.specs.declared.line.End.{End}

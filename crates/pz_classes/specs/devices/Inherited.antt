@@ -1,10 +1,10 @@
 -- What the code keeps of fields, variables and ports.
 use Rattle.std.specs.Prelude.{◌≡◌, ◌<◌, ◌^◌, ℕ, suc, List, [], ◌++◌, length, Some, slice_get}
 use Rattle.std.specs.Option.{option_map_or}
-use Rattle.pz_syntax.specs.Classes.{DeclTree, ModelTree}
-use Rattle.pz_classes.specs.Numbers.{declaration}
-use Rattle.pz_classes.specs.Ancestors.{ancestors}
-use Rattle.pz_classes.specs.Members.{own_fields, own_variables, own_ports, from_root, spelled}
+use Rattle.pz_classes_code.specs.pz_syntax.Classes.{DeclTree, ModelTree}
+use Rattle.pz_classes_rules.specs.Numbers.{declaration}
+use Rattle.pz_classes_rules.specs.Ancestors.{ancestors}
+use Rattle.pz_classes_rules.specs.Members.{own_fields, own_variables, own_ports, from_root, spelled}
 use Rattle.pz_classes.specs.declared.members.Members.{Members}
 
 -- the own ones come last

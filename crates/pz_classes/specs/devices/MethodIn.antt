@@ -3,12 +3,12 @@ use Rattle.std.specs.Prelude.{◌≡◌, ℕ, ◌+◌, List, [], ◌∷◌, leng
 use Rattle.std.specs.Option.{option_map, unwrap_or}
 use Rattle.std.specs.Str.{bytes_eq}
 use Rattle.indexmap.specs.IndexMap.{get_by}
-use Rattle.pz_syntax.specs.Classes.{ModelTree}
-use Rattle.pz_classes.specs.declared.method_id.Counts.{Counts}
-use Rattle.pz_classes.specs.declared.method_id.MethodId.{MethodId}
+use Rattle.pz_classes_code.specs.pz_syntax.Classes.{ModelTree}
+use Rattle.pz_classes_rules.specs.declared.method_id.Counts.{Counts}
+use Rattle.pz_classes_rules.specs.declared.method_id.MethodId.{MethodId}
 use Rattle.pz_classes.specs.declared.method_index.Overload.{Overload}
 use Rattle.pz_classes.specs.declared.method_index.Methods.{Methods}
-use Rattle.pz_classes.specs.Methods.{Signature, same_counts, first_with, method_id, methods_before, own_method}
+use Rattle.pz_classes_rules.specs.Methods.{Signature, same_counts, first_with, method_id, methods_before, own_method}
 
 -- the first of these with the counts
 abbrev pub first_with_counts : Counts → List Overload → Option MethodId

@@ -1,21 +1,21 @@
 -- What the table of a model's classes holds.
 use Rattle.std.specs.Prelude.{◌≡◌, ℕ, suc, List, [], ◌∷◌, map, Option}
 use Rattle.std.specs.Option.{option_map}
-use Rattle.pz_syntax.specs.Classes.{DeclTree, ModelTree}
-use Rattle.pz_classes.specs.Numbers.{class}
-use Rattle.pz_classes.specs.Tables.{class_names}
-use Rattle.pz_classes.specs.Ancestors.{parent}
-use Rattle.pz_classes.specs.Members.{fields, variables, ports, spelled}
-use Rattle.pz_classes.specs.Methods.{Signature, own_method}
+use Rattle.pz_classes_code.specs.pz_syntax.Classes.{DeclTree, ModelTree}
+use Rattle.pz_classes_rules.specs.Numbers.{class}
+use Rattle.pz_classes_rules.specs.ClassNames.{class_names}
+use Rattle.pz_classes_rules.specs.Ancestors.{parent}
+use Rattle.pz_classes_rules.specs.Members.{fields, variables, ports, spelled}
+use Rattle.pz_classes_rules.specs.Methods.{Signature, own_method}
 use Rattle.pz_classes.specs.devices.MethodIn.{method_in}
-use Rattle.pz_classes.specs.Bodies.{bodies}
-use Rattle.pz_classes.specs.Preorder.{IsPreorderOf}
-use Rattle.pz_classes.specs.BodyView.{body_view}
-use Rattle.pz_classes.specs.Starts.{own_call}
+use Rattle.pz_classes_rules.specs.Bodies.{bodies}
+use Rattle.pz_classes_rules.specs.Preorder.{IsPreorderOf}
+use Rattle.pz_classes_rules.specs.BodyView.{body_view}
+use Rattle.pz_classes_rules.specs.Starts.{own_call}
 use Rattle.pz_classes_code.specs.NumberIn.{number_in}
 use Rattle.pz_classes_code.specs.StepView.{Tree}
 use Rattle.pz_classes_code.specs.StepView as step
-use Rattle.pz_classes.specs.declared.method_id.MethodId.{MethodId}
+use Rattle.pz_classes_rules.specs.declared.method_id.MethodId.{MethodId}
 use Rattle.pz_classes.specs.declared.entry.Entry.{Entry}
 use Rattle.pz_classes.specs.declared.classes.Classes.{Classes}
 

@@ -1,12 +1,12 @@
 -- What the code holds of the names around a method.
 use Rattle.std.specs.Prelude.{◌≡◌, ℕ, List}
-use Rattle.pz_syntax.specs.declared.names.Id.{Id}
-use Rattle.pz_syntax.specs.Classes.{ModelTree}
+use Rattle.pz_classes_code.specs.pz_syntax.declared.names.Id.{Id}
+use Rattle.pz_classes_code.specs.pz_syntax.Classes.{ModelTree}
 use Rattle.pz_classes_code.specs.declared.numbering.Numbering.{Numbering}
 use Rattle.pz_classes_code.specs.NumberIn.{number_in}
 use Rattle.pz_classes_code.specs.Resolution.{Scope}
-use Rattle.pz_classes.specs.Numbers.{class}
-use Rattle.pz_classes.specs.Members.{spelled}
+use Rattle.pz_classes_rules.specs.Numbers.{class}
+use Rattle.pz_classes_rules.specs.Members.{spelled}
 use Rattle.pz_classes_code.specs.Places.{place_in}
 use Rattle.pz_classes.specs.declared.surroundings.Surroundings.{Surroundings}
 

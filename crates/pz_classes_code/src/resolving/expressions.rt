@@ -6,7 +6,7 @@ ghost use Rattle.pz_classes_code.specs.ScopeView.{scope_view};
 
 use crate::scope::Scope;
 use crate::{Code, CodeForm, CodeLink, CodeSending};
-use pz_items::{Boxed, Items, both};
+use pz_syntax::pz_items::{Boxed, Items, both};
 use pz_syntax::{Expr, ExprForm, Link, Pos, Sending};
 use std::alloc::{AllocError, Global};
 

@@ -9,7 +9,7 @@ ghost use Rattle.pz_classes_code.specs.ScopeView.{scope_view};
 use crate::resolving::expressions::{resolve, resolve_list};
 use crate::scope::Scope;
 use crate::{Code, CodeForm, Slot, Step, StepForm};
-use pz_items::{Boxed, Items, Shared, both};
+use pz_syntax::pz_items::{Boxed, Items, Shared, both};
 use pz_syntax::{Expr, Id, Pos, Stmt, StmtForm};
 use std::alloc::{AllocError, Global};
 

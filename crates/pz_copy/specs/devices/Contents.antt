@@ -1,6 +1,6 @@
 -- The values and the objects in what a parcel keeps.
 use Rattle.std.specs.Prelude.{List, [], ◌∷◌}
-use Rattle.pz_value.specs.declared.value.Value.{Value}
+use Rattle.pz_state.specs.pz_value.declared.value.Value.{Value}
 use Rattle.pz_state.specs.Objects.{ObjectView}
 use Rattle.pz_copy.specs.Parcels.{plain_objects}
 use Rattle.pz_copy.specs.declared.contents.Contents.{Contents}

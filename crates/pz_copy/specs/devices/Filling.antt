@@ -1,7 +1,7 @@
 -- A state while a parcel is unpacked: first the objects without values, then one object after the
 -- other with its items.
 use Rattle.std.specs.Prelude.{ℕ, List, ◌++◌, length, map, take, drop}
-use Rattle.pz_value.specs.declared.value.Value.{Value}
+use Rattle.pz_state.specs.pz_value.declared.value.Value.{Value}
 use Rattle.pz_state.specs.Objects.{ObjectView}
 use Rattle.pz_state.specs.States.{StateView, nils, at_object}
 use Rattle.pz_copy.specs.Unpacking.{shifted_objects}

@@ -1,7 +1,7 @@
 -- A list that is gathered: numbers go to its end, each unless it is there.
 use Rattle.std.specs.Prelude.{◌≡◌, ◌≤◌, ℕ, nat_eq, List, [], ◌∷◌, Some, length, take, slice_get}
 use Rattle.indexmap.specs.IndexSet.{insert_key}
-use Rattle.pz_value.specs.declared.value.Value.{Value}
+use Rattle.pz_state.specs.pz_value.declared.value.Value.{Value}
 use Rattle.pz_state.specs.States.{StateView}
 use Rattle.pz_copy.specs.References.{IsIn}
 use Rattle.pz_copy.specs.Packing.{mentioned}

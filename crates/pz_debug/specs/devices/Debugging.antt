@@ -1,11 +1,11 @@
 -- What was done with the two files of a session.
 use Rattle.std.specs.Prelude.{◌≡◌, ◌≤◌, ℕ, List, [], ◌∷◌, ◌++◌, true, length, Some}
 use Rattle.pz_io.specs.Outside.{FilesState, SinkState, lookup, raised}
-use Rattle.pz_syntax.specs.Classes.{ModelTree}
-use Rattle.pz_run_reading.specs.declared.read_error.ReadModelError.{ReadModelError}
-use Rattle.pz_run_reading.specs.declared.read_error.ReadModelError.TheVariants.{NoMemory, Refused}
-use Rattle.pz_run_reading.specs.declared.refusal.Refusal.{Refusal}
-use Rattle.pz_run_reading.specs.Openings.{IsOpenModelOf, IsRefusedToOpen}
+use Rattle.pz_bind.specs.pz_syntax.Classes.{ModelTree}
+use Rattle.pz_run_lines.specs.pz_run_reading.declared.read_error.ReadModelError.{ReadModelError}
+use Rattle.pz_run_lines.specs.pz_run_reading.declared.read_error.ReadModelError.TheVariants.{NoMemory, Refused}
+use Rattle.pz_run_lines.specs.pz_run_reading.declared.refusal.Refusal.{Refusal}
+use Rattle.pz_run_lines.specs.pz_run_reading.Openings.{IsOpenModelOf, IsRefusedToOpen}
 use Rattle.pz_run_lines.specs.Lines.{model_refused_line}
 use Rattle.pz_debug.specs.Files.{JobFile, model_file, command_file}
 use Rattle.pz_debug.specs.Output.{PrintsSession}

@@ -1,7 +1,7 @@
 -- Processes by their paths.
 use Rattle.std.specs.Prelude.{◌≡◌, ◌<◌, ℕ, List, length}
-use Rattle.pz_syntax.specs.Classes.{ModelTree}
-use Rattle.pz_bind.specs.Nest.{processes}
+use Rattle.pz_classes_code.specs.pz_syntax.Classes.{ModelTree}
+use Rattle.pz_rules.specs.pz_bind_rules.Nest.{processes}
 use Rattle.pz_trace.specs.Labels.{path_of}
 
 -- process i is the first with this path

@@ -3,9 +3,9 @@ use Rattle.std.specs.Prelude.{◌≡◌, ℕ, zero, suc, ◌+◌, Bool, ◌||◌
 use Rattle.std.specs.Option.{option_map_or}
 use Rattle.pz_syntax.specs.declared.clusters.Instance.{Instance}
 use Rattle.pz_syntax.specs.Classes.{DeclTree, ModelTree}
-use Rattle.pz_classes.specs.Numbers.{declaration}
-use Rattle.pz_classes.specs.Instances.{instances, instance_class}
-use Rattle.pz_classes.specs.SizeRules.{Totals, nothing, plus, one_of, expanded}
+use Rattle.pz_classes.specs.pz_classes_rules.Numbers.{declaration}
+use Rattle.pz_classes.specs.pz_classes_rules.Instances.{instances, instance_class}
+use Rattle.pz_classes.specs.pz_classes_rules.SizeRules.{Totals, nothing, plus, one_of, expanded}
 use Rattle.pz_env.specs.declared.room.Held.{Held}
 use Rattle.pz_env.specs.declared.room.Counting.{Counting}
 

@@ -2,7 +2,7 @@
 use Rattle.std.specs.Prelude.{ℕ, Bool, ◌&&◌, List, [], ◌∷◌, ◌++◌, map, if◌then◌else◌}
 use Rattle.std.specs.List.{list_any, position_or_len}
 use Rattle.std.specs.Str.{bytes_eq}
-use Rattle.pz_env_script.specs.declared.entry.Entry.{Entry}
+use Rattle.pz_env_tree.specs.pz_env_script.declared.entry.Entry.{Entry}
 use Rattle.pz_env.specs.declared.ends.End.{End}
 use Rattle.pz_env.specs.declared.ends.EndSet.{EndSet}
 

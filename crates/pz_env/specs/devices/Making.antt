@@ -5,15 +5,15 @@ use Rattle.pz_syntax.specs.declared.tokens.Pos.{Pos}
 use Rattle.pz_syntax.specs.declared.exprs.Literal.TheVariants as literal
 use Rattle.pz_syntax.specs.Expressions as expression
 use Rattle.pz_syntax.specs.Expressions.{Expression, left_out}
-use Rattle.pz_value.specs.declared.value.Value.{Value}
+use Rattle.pz_classes_code.specs.pz_value.declared.value.Value.{Value}
 use Rattle.pz_syntax.specs.Statements.{Statement, delay, send, receive}
 use Rattle.pz_syntax.specs.declared.classes.Message.{Message}
 use Rattle.pz_syntax.specs.declared.clusters.Channel.{Channel}
 use Rattle.pz_syntax.specs.declared.clusters.ChannelEnd.TheVariants.{Inner}
-use Rattle.pz_env_script.specs.declared.entry.Entry.{Entry}
-use Rattle.pz_env_script.specs.Entries.{count_in}
-use Rattle.pz_env_script.specs.declared.entry.Transfer.{Transfer}
-use Rattle.pz_env_script.specs.declared.entry.Transfer.TheVariants.{Send, Receive}
+use Rattle.pz_env_tree.specs.pz_env_script.declared.entry.Entry.{Entry}
+use Rattle.pz_env_tree.specs.pz_env_script.Entries.{count_in}
+use Rattle.pz_env_tree.specs.pz_env_script.declared.entry.Transfer.{Transfer}
+use Rattle.pz_env_tree.specs.pz_env_script.declared.entry.Transfer.TheVariants.{Send, Receive}
 use Rattle.pz_env_tree.specs.Names.{instance_name, variable_name, kind_name, port_name}
 use Rattle.pz_env_tree.specs.EnvironmentClass.{literal_of, arguments, unless_none, is_sent}
 

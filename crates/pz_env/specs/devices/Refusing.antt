@@ -1,6 +1,6 @@
 -- Which entries are refused, by the ends that a system has and those that are in channels.
 use Rattle.std.specs.Prelude.{ℕ, suc, Bool, not, ◌||◌, if◌then◌else◌, List, [], ◌∷◌, Option, Some, None}
-use Rattle.pz_env_script.specs.declared.entry.Entry.{Entry}
+use Rattle.pz_env_tree.specs.pz_env_script.declared.entry.Entry.{Entry}
 use Rattle.pz_env.specs.devices.Ends.{Named, named, has_end}
 
 -- the end that an entry names

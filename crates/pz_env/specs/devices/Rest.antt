@@ -2,7 +2,7 @@
 use Rattle.std.specs.Prelude.{ℕ, suc, List, [], ◌∷◌, drop}
 use Rattle.pz_syntax.specs.declared.names.Id.{Id}
 use Rattle.pz_syntax.specs.Statements.{Statement}
-use Rattle.pz_env_script.specs.declared.entry.Entry.{Entry}
+use Rattle.pz_env_tree.specs.pz_env_script.declared.entry.Entry.{Entry}
 use Rattle.pz_env_tree.specs.pz_env_rules.Environment.{Line, lines_from}
 use Rattle.pz_env_tree.specs.EnvironmentClass.{waiting, exchange}
 use Rattle.pz_env.specs.devices.Ends.{Named, is_named, end_of_entry}

@@ -2,8 +2,8 @@
 use Rattle.std.specs.Prelude.{ℕ, Bool, ◌&&◌, ◌==◌, List, map}
 use Rattle.std.specs.Bool.{beq}
 use Rattle.std.specs.Str.{bytes_eq}
-use Rattle.pz_env_script.specs.declared.entry.Entry.{Entry}
-use Rattle.pz_env_script.specs.Entries.{count_in}
+use Rattle.pz_env_tree.specs.pz_env_script.declared.entry.Entry.{Entry}
+use Rattle.pz_env_tree.specs.pz_env_script.Entries.{count_in}
 use Rattle.pz_env_tree.specs.EnvironmentClass.{is_sent}
 use Rattle.pz_env.specs.devices.Firsts.{has, with_key}
 use Rattle.pz_env.specs.declared.messages.Said.{Said}

@@ -4,9 +4,9 @@ use Rattle.std.specs.List.{list_any}
 use Rattle.pz_syntax.specs.declared.clusters.Instance.{Instance}
 use Rattle.pz_syntax.specs.declared.clusters.Channel.{Channel}
 use Rattle.pz_syntax.specs.Classes.{DeclTree, ModelTree}
-use Rattle.pz_classes.specs.Members.{ports, spelled}
-use Rattle.pz_bind.specs.Nest.{class_of, is_system, instances_at, channels_at}
-use Rattle.pz_bind.specs.Connections.{names_inner}
+use Rattle.pz_classes.specs.pz_classes_rules.Members.{ports, spelled}
+use Rattle.pz_env_tree.specs.pz_bind_rules.Nest.{class_of, is_system, instances_at, channels_at}
+use Rattle.pz_env_tree.specs.pz_bind_rules.Connections.{names_inner}
 use Rattle.pz_env.specs.devices.Ends.{Named, named, is_named}
 
 -- the first system among these declarations

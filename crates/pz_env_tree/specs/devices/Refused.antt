@@ -2,14 +2,14 @@
 use Rattle.std.specs.Prelude.{ℕ, suc, nat_le, nat_lt, Bool, not, ◌&&◌, ◌||◌, if◌then◌else◌, List, [], ◌∷◌, Option, Some, None, is_some}
 use Rattle.std.specs.List.{list_any}
 use Rattle.std.specs.Str.{bytes_eq}
-use Rattle.pz_syntax.specs.declared.clusters.Instance.{Instance}
-use Rattle.pz_syntax.specs.Classes.{ModelTree}
-use Rattle.pz_classes.specs.Numbers.{class}
-use Rattle.pz_classes.specs.Members.{ports, spelled}
-use Rattle.pz_classes.specs.SizeRules.{systems, system_size}
-use Rattle.pz_bind.specs.Nest.{class_of, instances_at, channels_at}
-use Rattle.pz_bind.specs.Connections.{names_inner}
-use Rattle.pz_env_script.specs.declared.entry.Entry.{Entry}
+use Rattle.pz_env_rules.specs.pz_syntax.declared.clusters.Instance.{Instance}
+use Rattle.pz_env_rules.specs.pz_syntax.Classes.{ModelTree}
+use Rattle.pz_env_rules.specs.pz_classes_rules.Numbers.{class}
+use Rattle.pz_env_rules.specs.pz_classes_rules.Members.{ports, spelled}
+use Rattle.pz_env_rules.specs.pz_classes_rules.SizeRules.{systems, system_size}
+use Rattle.pz_env_rules.specs.pz_bind_rules.Nest.{class_of, instances_at, channels_at}
+use Rattle.pz_env_rules.specs.pz_bind_rules.Connections.{names_inner}
+use Rattle.pz_env_rules.specs.pz_env_script.declared.entry.Entry.{Entry}
 use Rattle.pz_env_tree.specs.Names.{class_name, instance_name}
 use Rattle.pz_env_tree.specs.Refusals.{full_processes, most_channels}
 

@@ -1,11 +1,11 @@
 -- Outcomes of the ends of evaluations.
 use Rattle.std.specs.Prelude.{◌≡◌}
-use Rattle.pz_eval_rules.specs.declared.outcome.Outcome.{Outcome}
-use Rattle.pz_eval_rules.specs.declared.outcome.Outcome.TheVariants as outcome
-use Rattle.pz_eval_rules.specs.declared.outcome.Listed.{Listed}
-use Rattle.pz_eval_rules.specs.declared.outcome.Listed.TheVariants as listed
-use Rattle.pz_eval_operations.specs.declared.stop.Stop.{Stop}
-use Rattle.pz_eval_operations.specs.declared.stop.Stop.TheVariants as stop
+use Rattle.pz_eval_machine.specs.pz_eval_rules.declared.outcome.Outcome.{Outcome}
+use Rattle.pz_eval_machine.specs.pz_eval_rules.declared.outcome.Outcome.TheVariants as outcome
+use Rattle.pz_eval_machine.specs.pz_eval_rules.declared.outcome.Listed.{Listed}
+use Rattle.pz_eval_machine.specs.pz_eval_rules.declared.outcome.Listed.TheVariants as listed
+use Rattle.pz_eval_machine.specs.pz_eval_operations.declared.stop.Stop.{Stop}
+use Rattle.pz_eval_machine.specs.pz_eval_operations.declared.stop.Stop.TheVariants as stop
 use Rattle.pz_eval_machine.specs.declared.control.Finish.{Finish}
 use Rattle.pz_eval_machine.specs.declared.control.Finish.TheVariants as finish
 

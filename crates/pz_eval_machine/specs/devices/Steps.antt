@@ -1,9 +1,9 @@
 -- What a step of the code does to what is to come.
 use Rattle.std.specs.Prelude.{◌≡◌, ℕ, List, [], ◌∷◌, Result, Ok, Err}
-use Rattle.pz_value.specs.declared.value.Value.{Value}
-use Rattle.pz_eval_rules.specs.Memories.{Memory, Location}
-use Rattle.pz_eval_rules.specs.Answers.{Answer, ends, fault, gives, stops}
-use Rattle.pz_eval_rules.specs.devices.Computed.{Reached, done, spent}
+use Rattle.pz_classes_code.specs.pz_value.declared.value.Value.{Value}
+use Rattle.pz_eval_operations.specs.pz_eval_rules.Memories.{Memory, Location}
+use Rattle.pz_eval_operations.specs.pz_eval_rules.Answers.{Answer, ends, fault, gives, stops}
+use Rattle.pz_eval_operations.specs.pz_eval_rules.devices.Computed.{Reached, done, spent}
 use Rattle.pz_eval_operations.specs.declared.stop.Stop.{Stop}
 use Rattle.pz_eval_operations.specs.declared.stop.Stop.TheVariants as stop
 use Rattle.pz_eval_machine.specs.declared.control.Control.{Control}

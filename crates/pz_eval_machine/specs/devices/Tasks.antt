@@ -1,18 +1,18 @@
 -- What the tasks of the code come to.
 use Rattle.std.specs.Prelude.{ℕ, List, [], ◌∷◌, ◌++◌}
-use Rattle.pz_syntax.specs.declared.tokens.Pos.{Pos}
-use Rattle.pz_syntax.specs.declared.names.Id.{Id}
-use Rattle.pz_syntax.specs.Expressions.{Sendings}
-use Rattle.pz_syntax.specs.Classes.{ModelTree}
-use Rattle.pz_value.specs.declared.value.ClassId.{ClassId}
-use Rattle.pz_value.specs.declared.value.Value.{Value}
-use Rattle.pz_value.specs.declared.value.Value.TheVariants.{Nil}
+use Rattle.pz_classes_code.specs.pz_syntax.declared.tokens.Pos.{Pos}
+use Rattle.pz_classes_code.specs.pz_syntax.declared.names.Id.{Id}
+use Rattle.pz_classes_code.specs.pz_syntax.Expressions.{Sendings}
+use Rattle.pz_classes_code.specs.pz_syntax.Classes.{ModelTree}
+use Rattle.pz_classes_code.specs.pz_value.declared.value.ClassId.{ClassId}
+use Rattle.pz_classes_code.specs.pz_value.declared.value.Value.{Value}
+use Rattle.pz_classes_code.specs.pz_value.declared.value.Value.TheVariants.{Nil}
 use Rattle.pz_classes_code.specs.declared.slot.Slot.{Slot}
 use Rattle.pz_classes_code.specs.CodeView.{Tree, view, list_view, part_view}
-use Rattle.pz_eval_rules.specs.Memories.{Location, write}
-use Rattle.pz_eval_rules.specs.Answers.{ends, gives, stops, ended}
-use Rattle.pz_eval_rules.specs.Steps.{Codes, truth, chosen, applied, applied_alone, reply}
-use Rattle.pz_eval_rules.specs.devices.Computed.{Reached, done, Computation, follow, and_then, seen_by, tick, tested, sequence, arguments, operators, replied, selectors, going, turns, evaluated}
+use Rattle.pz_eval_operations.specs.pz_eval_rules.Memories.{Location, write}
+use Rattle.pz_eval_operations.specs.pz_eval_rules.Answers.{ends, gives, stops, ended}
+use Rattle.pz_eval_operations.specs.pz_eval_rules.Steps.{Codes, truth, chosen, applied, applied_alone, reply}
+use Rattle.pz_eval_operations.specs.pz_eval_rules.devices.Computed.{Reached, done, Computation, follow, and_then, seen_by, tick, tested, sequence, arguments, operators, replied, selectors, going, turns, evaluated}
 use Rattle.pz_eval_operations.specs.declared.task.Task.{Task}
 use Rattle.pz_eval_operations.specs.declared.task.Task.TheVariants as task
 use Rattle.pz_eval_machine.specs.declared.control.Control.{Control}

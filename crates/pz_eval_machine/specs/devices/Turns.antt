@@ -1,15 +1,15 @@
 -- Turns of a `while` that are done at once.
 use Rattle.std.specs.Prelude.{◌≡◌, ◌<◌, ◌≤◌, ℕ, suc, List, Bool, true, false, Option, Some, None}
 use Rattle.std.specs.Borrow.{Bor}
-use Rattle.pz_syntax.specs.declared.tokens.Pos.{Pos}
-use Rattle.pz_syntax.specs.Classes.{ModelTree}
-use Rattle.pz_value.specs.declared.value.Value.TheVariants.{Bool as Boolean, Nil}
+use Rattle.pz_classes_code.specs.pz_syntax.declared.tokens.Pos.{Pos}
+use Rattle.pz_classes_code.specs.pz_syntax.Classes.{ModelTree}
+use Rattle.pz_classes_code.specs.pz_value.declared.value.Value.TheVariants.{Bool as Boolean, Nil}
 use Rattle.pz_classes_code.specs.declared.code.Code.{Code}
 use Rattle.pz_classes_code.specs.CodeView.{Tree, list_view}
-use Rattle.pz_eval_rules.specs.Memories.{Memory, Location}
-use Rattle.pz_eval_rules.specs.Answers.{gives}
-use Rattle.pz_eval_rules.specs.Steps.{Codes}
-use Rattle.pz_eval_rules.specs.devices.Computed.{done, and_then, sequence, evaluated}
+use Rattle.pz_eval_operations.specs.pz_eval_rules.Memories.{Memory, Location}
+use Rattle.pz_eval_operations.specs.pz_eval_rules.Answers.{gives}
+use Rattle.pz_eval_operations.specs.pz_eval_rules.Steps.{Codes}
+use Rattle.pz_eval_operations.specs.pz_eval_rules.devices.Computed.{done, and_then, sequence, evaluated}
 use Rattle.pz_eval_machine.specs.devices.Tasks.{turning}
 
 -- after one unit, the test is true with so many units left of these; or nothing is counted

@@ -1,11 +1,11 @@
 -- How much can be done before a unit is counted: each step that counts none makes this less.
 use Rattle.std.specs.Prelude.{◌≡◌, ◌+◌, ◌<◌, ◌≤◌, ◌⊎◌, ℕ, suc, List}
 use Rattle.std.specs.List.{sum_by}
-use Rattle.pz_syntax.specs.Expressions.{chain, sends, none, more, Part, left_out, written, Links, no_links, link, Sendings, no_sendings, sending}
-use Rattle.pz_value.specs.declared.value.ClassId.{ClassId}
+use Rattle.pz_classes_code.specs.pz_syntax.Expressions.{chain, sends, none, more, Part, left_out, written, Links, no_links, link, Sendings, no_sendings, sending}
+use Rattle.pz_classes_code.specs.pz_value.declared.value.ClassId.{ClassId}
 use Rattle.pz_classes_code.specs.declared.slot.Slot.{Slot}
 use Rattle.pz_classes_code.specs.CodeView.{Tree, view, list_view, part_view}
-use Rattle.pz_eval_rules.specs.Steps.{Codes}
+use Rattle.pz_eval_operations.specs.pz_eval_rules.Steps.{Codes}
 use Rattle.pz_eval_operations.specs.declared.task.Task.{Task}
 use Rattle.pz_eval_operations.specs.declared.task.Task.TheVariants as task
 use Rattle.pz_eval_machine.specs.declared.control.Control.{Control}

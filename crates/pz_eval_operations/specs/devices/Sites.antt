@@ -1,6 +1,6 @@
 -- Where the code evaluates, and what it reads there.
 use Rattle.std.specs.Prelude.{List, []}
-use Rattle.pz_value.specs.declared.value.Value.{Value}
+use Rattle.pz_classes_code.specs.pz_value.declared.value.Value.{Value}
 use Rattle.pz_state.specs.States.{StateView}
 use Rattle.pz_eval_rules.specs.Memories.{Memory, Location, in_process, in_object}
 use Rattle.pz_eval_operations.specs.declared.task.Site.{Site}

@@ -1,6 +1,6 @@
 -- What single operations tell, and units that they count.
 use Rattle.std.specs.Prelude.{◌≡◌, ℕ, suc, Result, Ok, Err}
-use Rattle.pz_value.specs.declared.value.Value.{Value}
+use Rattle.pz_classes_code.specs.pz_value.declared.value.Value.{Value}
 use Rattle.pz_eval_rules.specs.Memories.{Memory}
 use Rattle.pz_eval_rules.specs.Answers.{Answer, fault, gives, stops}
 use Rattle.pz_eval_operations.specs.declared.stop.Stop.{Stop}

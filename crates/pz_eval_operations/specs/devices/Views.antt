@@ -1,7 +1,7 @@
 -- Operators and selectors as those of trees.
 use Rattle.std.specs.Prelude.{List, map}
-use Rattle.pz_syntax.specs.Expressions.{Links, Sendings}
-use Rattle.pz_value.specs.declared.value.ClassId.{ClassId}
+use Rattle.pz_classes_code.specs.pz_syntax.Expressions.{Links, Sendings}
+use Rattle.pz_classes_code.specs.pz_value.declared.value.ClassId.{ClassId}
 use Rattle.pz_classes_code.specs.declared.slot.Slot.{Slot}
 use Rattle.pz_classes_code.specs.declared.code.CodeLink.{CodeLink}
 use Rattle.pz_classes_code.specs.declared.code.CodeSending.{CodeSending}

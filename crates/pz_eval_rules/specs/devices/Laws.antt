@@ -1,8 +1,8 @@
 -- Laws of what is computed.
 use Rattle.std.specs.Prelude.{◌≡◌, ℕ, suc, false}
-use Rattle.pz_syntax.specs.declared.tokens.Pos.{Pos}
-use Rattle.pz_syntax.specs.Classes.{ModelTree}
-use Rattle.pz_classes_code.specs.CodeView.{Tree}
+use Rattle.pz_classes_rules.specs.pz_syntax.declared.tokens.Pos.{Pos}
+use Rattle.pz_classes_rules.specs.pz_syntax.Classes.{ModelTree}
+use Rattle.pz_classes_rules.specs.pz_classes_code.CodeView.{Tree}
 use Rattle.pz_state.specs.States.{StateView}
 use Rattle.pz_eval_rules.specs.declared.allowance.Allowance.{Allowance}
 use Rattle.pz_eval_rules.specs.Memories.{Memory, Location}

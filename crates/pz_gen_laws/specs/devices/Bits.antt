@@ -1,9 +1,9 @@
 -- Texts of words, numbers, symbols and blanks, bit by bit.
 use Rattle.std.specs.Prelude.{ℕ, ◌^◌, List, [], ◌∷◌, ◌++◌, length, Bool, true, false, not, ◌&&◌, ◌||◌, ◌==◌, nat_le, nat_lt, if◌then◌else◌, is_some, unwrap_or, pos}
 use Rattle.std.specs.List.{list_all}
-use Rattle.pz_syntax.specs.declared.tokens.Symbol.{Symbol}
-use Rattle.pz_syntax.specs.declared.tokens.Symbol.TheVariants as s
-use Rattle.pz_syntax.specs.declared.tokens.TokenKind.{TokenKind}
+use Rattle.pz_classes_rules.specs.pz_syntax.declared.tokens.Symbol.{Symbol}
+use Rattle.pz_classes_rules.specs.pz_syntax.declared.tokens.Symbol.TheVariants as s
+use Rattle.pz_classes_rules.specs.pz_syntax.declared.tokens.TokenKind.{TokenKind}
 use Rattle.pz_lexer.specs.declared.sorts.Sort.{Sort}
 use Rattle.pz_lexer.specs.Bytes.{is_blank, is_letter, is_digit, is_word, begins}
 use Rattle.pz_lexer.specs.Comments.{begins_comment}

@@ -1,8 +1,8 @@
 -- Bits, and the marks of their tokens.
 use Rattle.std.specs.Prelude.{List, [], ◌∷◌, ◌++◌, map}
-use Rattle.pz_syntax.specs.declared.tokens.TokenKind.{TokenKind}
-use Rattle.pz_syntax.specs.declared.tokens.Mark.{Mark}
-use Rattle.pz_syntax.specs.Heads.{Role, role, is_head}
+use Rattle.pz_classes_rules.specs.pz_syntax.declared.tokens.TokenKind.{TokenKind}
+use Rattle.pz_classes_rules.specs.pz_syntax.declared.tokens.Mark.{Mark}
+use Rattle.pz_classes_rules.specs.pz_syntax.Heads.{Role, role, is_head}
 use Rattle.pz_lexer.specs.declared.sorts.Sort.{Sort}
 use Rattle.pz_gen_laws.specs.devices.Bits.{Bit, sort_of}
 

@@ -1,14 +1,14 @@
 -- What the rules look at in the system of a ring: the positions of its parts are left open.
 use Rattle.std.specs.Prelude.{◌≡◌, ◌≢◌, ℕ, ◌+◌, List, [], ◌∷◌, ◌++◌, length, map, Bool, Some, None, unwrap_or, codes}
 use Rattle.std.specs.List.{AllByRecursion, flat_map}
-use Rattle.pz_syntax.specs.declared.tokens.Pos.{Pos}
-use Rattle.pz_syntax.specs.declared.names.Id.{Id}
-use Rattle.pz_syntax.specs.declared.clusters.Arg.TheVariants.{Plain}
-use Rattle.pz_syntax.specs.declared.clusters.Instance.{Instance}
-use Rattle.pz_syntax.specs.declared.clusters.Channel.{Channel}
-use Rattle.pz_syntax.specs.declared.clusters.ChannelEnd.{ChannelEnd}
-use Rattle.pz_syntax.specs.declared.clusters.ChannelEnd.TheVariants.{Inner, Outer}
-use Rattle.pz_syntax.specs.declared.clusters.SystemDecl.{SystemDecl}
+use Rattle.pz_classes_rules.specs.pz_syntax.declared.tokens.Pos.{Pos}
+use Rattle.pz_classes_rules.specs.pz_syntax.declared.names.Id.{Id}
+use Rattle.pz_classes_rules.specs.pz_syntax.declared.clusters.Arg.TheVariants.{Plain}
+use Rattle.pz_classes_rules.specs.pz_syntax.declared.clusters.Instance.{Instance}
+use Rattle.pz_classes_rules.specs.pz_syntax.declared.clusters.Channel.{Channel}
+use Rattle.pz_classes_rules.specs.pz_syntax.declared.clusters.ChannelEnd.{ChannelEnd}
+use Rattle.pz_classes_rules.specs.pz_syntax.declared.clusters.ChannelEnd.TheVariants.{Inner, Outer}
+use Rattle.pz_classes_rules.specs.pz_syntax.declared.clusters.SystemDecl.{SystemDecl}
 use Rattle.pz_gen.specs.Ring as ring
 use Rattle.pz_gen_laws.specs.devices.RingBits.{stations}
 use Rattle.pz_gen_laws.specs.devices.RingTree.{truth}

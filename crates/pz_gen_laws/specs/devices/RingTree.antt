@@ -1,23 +1,23 @@
 -- The tree of a ring, each part at the place that is given for its token.
 use Rattle.std.specs.Prelude.{ℕ, ◌+◌, List, [], ◌∷◌, ◌++◌, length, map, Bool, true, false, ◌==◌, Option, Some, None, if◌then◌else◌, codes, pos}
-use Rattle.pz_syntax.specs.declared.tokens.Pos.{Pos}
-use Rattle.pz_syntax.specs.declared.tokens.Symbol.TheVariants as s
-use Rattle.pz_syntax.specs.declared.names.Id.{Id}
-use Rattle.pz_syntax.specs.declared.exprs.Literal.{Literal}
-use Rattle.pz_syntax.specs.declared.exprs.Literal.TheVariants as lit
-use Rattle.pz_syntax.specs.declared.classes.VarGroup.{VarGroup}
-use Rattle.pz_syntax.specs.declared.classes.Message.{Message}
-use Rattle.pz_syntax.specs.declared.clusters.Arg.TheVariants.{Plain}
-use Rattle.pz_syntax.specs.declared.clusters.Instance.{Instance}
-use Rattle.pz_syntax.specs.declared.clusters.ChannelEnd.{ChannelEnd}
-use Rattle.pz_syntax.specs.declared.clusters.ChannelEnd.TheVariants.{Inner}
-use Rattle.pz_syntax.specs.declared.clusters.Channel.{Channel}
-use Rattle.pz_syntax.specs.declared.clusters.SystemDecl.{SystemDecl}
-use Rattle.pz_syntax.specs.ExpressionErasure.{origin}
-use Rattle.pz_syntax.specs.Expressions.{Expression, Part, literal, variable, chain, none, more, left_out, written, no_links, link}
-use Rattle.pz_syntax.specs.Statements.{Statement, Statements, delay, bracketed, conditional, interrupt, send, receive, call, no_statements, then, not_written}
-use Rattle.pz_syntax.specs.Classes.{ProcessMethodTree, ProcessClassTree, process_class, system, ModelTree}
-use Rattle.pz_syntax.specs.ModelText.{decl_text}
+use Rattle.pz_classes_rules.specs.pz_syntax.declared.tokens.Pos.{Pos}
+use Rattle.pz_classes_rules.specs.pz_syntax.declared.tokens.Symbol.TheVariants as s
+use Rattle.pz_classes_rules.specs.pz_syntax.declared.names.Id.{Id}
+use Rattle.pz_classes_rules.specs.pz_syntax.declared.exprs.Literal.{Literal}
+use Rattle.pz_classes_rules.specs.pz_syntax.declared.exprs.Literal.TheVariants as lit
+use Rattle.pz_classes_rules.specs.pz_syntax.declared.classes.VarGroup.{VarGroup}
+use Rattle.pz_classes_rules.specs.pz_syntax.declared.classes.Message.{Message}
+use Rattle.pz_classes_rules.specs.pz_syntax.declared.clusters.Arg.TheVariants.{Plain}
+use Rattle.pz_classes_rules.specs.pz_syntax.declared.clusters.Instance.{Instance}
+use Rattle.pz_classes_rules.specs.pz_syntax.declared.clusters.ChannelEnd.{ChannelEnd}
+use Rattle.pz_classes_rules.specs.pz_syntax.declared.clusters.ChannelEnd.TheVariants.{Inner}
+use Rattle.pz_classes_rules.specs.pz_syntax.declared.clusters.Channel.{Channel}
+use Rattle.pz_classes_rules.specs.pz_syntax.declared.clusters.SystemDecl.{SystemDecl}
+use Rattle.pz_classes_rules.specs.pz_syntax.ExpressionErasure.{origin}
+use Rattle.pz_classes_rules.specs.pz_syntax.Expressions.{Expression, Part, literal, variable, chain, none, more, left_out, written, no_links, link}
+use Rattle.pz_classes_rules.specs.pz_syntax.Statements.{Statement, Statements, delay, bracketed, conditional, interrupt, send, receive, call, no_statements, then, not_written}
+use Rattle.pz_classes_rules.specs.pz_syntax.Classes.{ProcessMethodTree, ProcessClassTree, process_class, system, ModelTree}
+use Rattle.pz_classes_rules.specs.pz_syntax.ModelText.{decl_text}
 use Rattle.pz_parser_declarations.specs.ClusterPlaces.{place_system}
 use Rattle.pz_parser.specs.ProcessPlaces.{place_process_class}
 use Rattle.pz_gen.specs.Ring as ring

@@ -1,7 +1,7 @@
 -- What is asked, and what an update leaves of the offers that are kept.
 use Rattle.std.specs.Prelude.{◌≡◌, ℕ, true, false, not, nat_eq, List, [], ◌∷◌, ◌++◌, length, filter, map, sum_by, All, if◌then◌else◌}
 use Rattle.std.specs.List.{flat_map}
-use Rattle.pz_copy.specs.Parcels.{ParcelView}
+use Rattle.pz_offer.specs.pz_copy.Parcels.{ParcelView}
 use Rattle.pz_offer.specs.declared.end.End.{End}
 use Rattle.pz_match.specs.declared.offers.Sender.{Sender}
 use Rattle.pz_match.specs.declared.rows.Row.{Row}

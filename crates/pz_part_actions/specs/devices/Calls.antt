@@ -1,14 +1,14 @@
 -- Methods that can be called, and frames round their bodies.
 use Rattle.std.specs.Prelude.{ℕ, List}
-use Rattle.pz_syntax.specs.Classes.{ModelTree}
-use Rattle.pz_value.specs.declared.value.ClassId.{ClassId}
+use Rattle.pz_classes_code.specs.pz_syntax.Classes.{ModelTree}
+use Rattle.pz_classes_code.specs.pz_value.declared.value.ClassId.{ClassId}
 use Rattle.pz_classes_code.specs.declared.slot.Slot.{Slot}
-use Rattle.pz_classes.specs.declared.classes.Classes.{Classes}
-use Rattle.pz_classes.specs.declared.method_id.Counts.TheVariants.{Process}
-use Rattle.pz_classes.specs.MethodBodies.{HasBody}
-use Rattle.pz_classes.specs.SoundBodies.{BodiesFit}
-use Rattle.pz_classes.specs.Tables.{HasClass}
-use Rattle.pz_classes.specs.devices.Rows.{AreClasses}
+use Rattle.pz_part_queries.specs.pz_classes.declared.classes.Classes.{Classes}
+use Rattle.pz_rules.specs.pz_classes_rules.declared.method_id.Counts.TheVariants.{Process}
+use Rattle.pz_rules.specs.pz_classes_rules.MethodBodies.{HasBody}
+use Rattle.pz_rules.specs.pz_classes_rules.SoundBodies.{BodiesFit}
+use Rattle.pz_part_queries.specs.pz_classes.Tables.{HasClass}
+use Rattle.pz_part_queries.specs.pz_classes.devices.Rows.{AreClasses}
 use Rattle.pz_rules.specs.Framing.{framed}
 use Rattle.pz_rules.specs.Settings as settings
 use Rattle.pz_rules.specs.Settings.{left_by}

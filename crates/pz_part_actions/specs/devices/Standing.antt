@@ -1,8 +1,8 @@
 -- A process of the class at home, as its statements see it from a standpoint, in this state.
-use Rattle.pz_classes.specs.CheckedView.{checked_model}
-use Rattle.pz_state.specs.States.{StateView}
+use Rattle.pz_part_queries.specs.pz_classes.CheckedView.{checked_model}
+use Rattle.pz_rules.specs.pz_state.States.{StateView}
 use Rattle.pz_rules.specs.Settings.{Context}
-use Rattle.pz_part_opening.specs.declared.home.Home.{Home}
+use Rattle.pz_term_around.specs.pz_part_opening.declared.home.Home.{Home}
 use Rattle.pz_part_queries.specs.declared.standpoint.Standpoint.{Standpoint}
 use Rattle.pz_part_queries.specs.Standpoints.{seen_from}
 

@@ -1,10 +1,10 @@
 -- Where statements open, in the code's words; and where what stands there has no inside.
 use Rattle.std.specs.Prelude.{◌≡◌, ◌⊎◌, ℕ, [], Option, Some, None}
-use Rattle.pz_syntax.specs.declared.tokens.Pos.{Pos}
-use Rattle.pz_syntax.specs.declared.names.Id.{Id}
-use Rattle.pz_syntax.specs.Expressions.{none}
-use Rattle.pz_syntax.specs.Statements.{bracketed, call, no_statements, then}
-use Rattle.pz_classes.specs.Bodies.{process_body}
+use Rattle.pz_classes_code.specs.pz_syntax.declared.tokens.Pos.{Pos}
+use Rattle.pz_classes_code.specs.pz_syntax.declared.names.Id.{Id}
+use Rattle.pz_classes_code.specs.pz_syntax.Expressions.{none}
+use Rattle.pz_classes_code.specs.pz_syntax.Statements.{bracketed, call, no_statements, then}
+use Rattle.pz_classes.specs.pz_classes_rules.Bodies.{process_body}
 use Rattle.pz_classes_code.specs.StepView.{view, sequence_view}
 use Rattle.pz_rules.specs.declared.limits.Edition.TheVariants.{One as first_edition}
 use Rattle.pz_rules.specs.Terms.{Step, Steps}

@@ -1,9 +1,9 @@
 -- What the outcome of an evaluation into a parcel means.
 use Rattle.std.specs.Prelude.{ℕ, Result, Ok, Err}
-use Rattle.pz_syntax.specs.declared.tokens.Pos.{Pos}
-use Rattle.pz_copy.specs.Parcels.{ParcelView}
-use Rattle.pz_offer.specs.declared.trouble.Trouble.{Trouble}
-use Rattle.pz_offer.specs.declared.trouble.Trouble.TheVariants.{Fault, Spent}
+use Rattle.pz_classes_code.specs.pz_syntax.declared.tokens.Pos.{Pos}
+use Rattle.pz_rules.specs.pz_copy.Parcels.{ParcelView}
+use Rattle.pz_rules.specs.pz_offer.declared.trouble.Trouble.{Trouble}
+use Rattle.pz_rules.specs.pz_offer.declared.trouble.Trouble.TheVariants.{Fault, Spent}
 use Rattle.pz_eval.specs.declared.parcels.Parceled.{Parceled}
 use Rattle.pz_eval.specs.declared.parcels.Parceled.TheVariants as parceled
 

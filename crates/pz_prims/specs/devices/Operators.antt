@@ -2,8 +2,8 @@
 use Rattle.std.specs.Prelude.{ℕ, nat_lt, nat_le, ℤ, ◌+ℤ◌, ◌-ℤ◌, ◌*ℤ◌, int_lt, int_le, int_div, Bool, not, ◌&&◌, ◌||◌, List, [], ◌∷◌, ◌++◌, Ok, codes}
 use Rattle.std.specs.Bool.{beq}
 use Rattle.std.specs.Int.{int_min, int_max}
-use Rattle.pz_value.specs.declared.value.Value.{Value}
-use Rattle.pz_value.specs.declared.value.Value.TheVariants.{Bool as Boolean, Int}
+use Rattle.pz_state.specs.pz_value.declared.value.Value.{Value}
+use Rattle.pz_state.specs.pz_value.declared.value.Value.TheVariants.{Bool as Boolean, Int}
 use Rattle.pz_state.specs.States.{StateView}
 use Rattle.pz_prims.specs.declared.every_value.Equality.{Equality}
 use Rattle.pz_prims.specs.declared.integers.Operator.{Operator}

@@ -11,14 +11,14 @@
 --   process class Q extends P
 --   methods b()() d()()
 use Rattle.std.proofs.Common.{◌≡◌, ℕ, List, [], ◌∷◌, map, Some, None, codes, refl}
-use Rattle.pz_syntax.specs.declared.exprs.Literal.TheVariants as literal
-use Rattle.pz_syntax.specs.Expressions.{Expression, none}
-use Rattle.pz_syntax.specs.Expressions as expression
-use Rattle.pz_syntax.specs.Statements.{Statement, skip, call}
-use Rattle.pz_syntax.specs.Statements as statement
-use Rattle.pz_syntax.specs.Classes.{process_class, ModelTree}
-use Rattle.pz_classes_code.specs.declared.slot.Slot.TheVariants.{Shared}
-use Rattle.pz_state.specs.States.{StateView, initial}
+use Rattle.pz_bind_rules.specs.pz_syntax.declared.exprs.Literal.TheVariants as literal
+use Rattle.pz_bind_rules.specs.pz_syntax.Expressions.{Expression, none}
+use Rattle.pz_bind_rules.specs.pz_syntax.Expressions as expression
+use Rattle.pz_bind_rules.specs.pz_syntax.Statements.{Statement, skip, call}
+use Rattle.pz_bind_rules.specs.pz_syntax.Statements as statement
+use Rattle.pz_bind_rules.specs.pz_syntax.Classes.{process_class, ModelTree}
+use Rattle.pz_bind_rules.specs.pz_classes_code.declared.slot.Slot.TheVariants.{Shared}
+use Rattle.pz_offer.specs.pz_state.States.{StateView, initial}
 use Rattle.pz_rules.specs.declared.limits.Edition.{Edition}
 use Rattle.pz_rules.specs.declared.limits.Edition.TheVariants.{One, Two}
 use Rattle.pz_rules.specs.Terms.{Term, done, leaf, sequence, parallel, select, guarded, frame, idle}

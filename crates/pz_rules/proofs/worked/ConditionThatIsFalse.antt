@@ -16,13 +16,13 @@
 --   instances a : S(v := 2) b : S(v := 3) r : R
 --   channels {a.o, b.o, r.i}
 use Rattle.std.proofs.Common.{true, false, List, [], ◌∷◌, Some, None, codes, refl}
-use Rattle.pz_syntax.specs.declared.tokens.Symbol.TheVariants.{Greater}
-use Rattle.pz_syntax.specs.declared.clusters.ChannelEnd.TheVariants.{Inner}
-use Rattle.pz_syntax.specs.Expressions.{variable, chain, none, left_out, written, no_links, link}
-use Rattle.pz_syntax.specs.Statements.{send, receive, call}
-use Rattle.pz_syntax.specs.Classes.{process_class, ModelTree}
-use Rattle.pz_value.specs.declared.value.Value.TheVariants.{Nil}
-use Rattle.pz_classes_code.specs.declared.slot.Slot.TheVariants.{Shared}
+use Rattle.pz_bind_rules.specs.pz_syntax.declared.tokens.Symbol.TheVariants.{Greater}
+use Rattle.pz_bind_rules.specs.pz_syntax.declared.clusters.ChannelEnd.TheVariants.{Inner}
+use Rattle.pz_bind_rules.specs.pz_syntax.Expressions.{variable, chain, none, left_out, written, no_links, link}
+use Rattle.pz_bind_rules.specs.pz_syntax.Statements.{send, receive, call}
+use Rattle.pz_bind_rules.specs.pz_syntax.Classes.{process_class, ModelTree}
+use Rattle.pz_bind_rules.specs.pz_value.declared.value.Value.TheVariants.{Nil}
+use Rattle.pz_bind_rules.specs.pz_classes_code.declared.slot.Slot.TheVariants.{Shared}
 use Rattle.pz_rules.specs.declared.action.Kind.TheVariants.{Call}
 use Rattle.pz_rules.specs.declared.moment.Moment.TheVariants.{Deadlock}
 use Rattle.pz_rules.specs.Terms.{Step, leaf}

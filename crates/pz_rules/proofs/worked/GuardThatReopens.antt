@@ -13,13 +13,13 @@
 --   rap
 --   system instances p : P
 use Rattle.std.proofs.Common.{List, [], ◌∷◌, Some, None, codes, refl}
-use Rattle.pz_syntax.specs.declared.tokens.Symbol.TheVariants.{Greater}
-use Rattle.pz_syntax.specs.Expressions.{variable, chain, assign, none, no_links, link}
-use Rattle.pz_syntax.specs.Statements.{skip, delay, bracketed, send, receive, call, assignment, value}
-use Rattle.pz_syntax.specs.Statements as statement
-use Rattle.pz_syntax.specs.Classes.{process_class, ModelTree}
-use Rattle.pz_value.specs.declared.value.Value.TheVariants.{Nil}
-use Rattle.pz_classes_code.specs.declared.slot.Slot.TheVariants.{Shared}
+use Rattle.pz_bind_rules.specs.pz_syntax.declared.tokens.Symbol.TheVariants.{Greater}
+use Rattle.pz_bind_rules.specs.pz_syntax.Expressions.{variable, chain, assign, none, no_links, link}
+use Rattle.pz_bind_rules.specs.pz_syntax.Statements.{skip, delay, bracketed, send, receive, call, assignment, value}
+use Rattle.pz_bind_rules.specs.pz_syntax.Statements as statement
+use Rattle.pz_bind_rules.specs.pz_syntax.Classes.{process_class, ModelTree}
+use Rattle.pz_bind_rules.specs.pz_value.declared.value.Value.TheVariants.{Nil}
+use Rattle.pz_bind_rules.specs.pz_classes_code.declared.slot.Slot.TheVariants.{Shared}
 use Rattle.pz_rules.specs.declared.action.Kind.TheVariants.{Eval, Expire, Call}
 use Rattle.pz_rules.specs.declared.moment.Moment.TheVariants.{Finished}
 use Rattle.pz_rules.specs.Terms.{Code, Step, done, leaf, wait, sequence, parallel, guarded}

@@ -15,12 +15,12 @@
 --   instances s : S(d := 4) r : R
 --   channels {s.o, r.i}
 use Rattle.std.proofs.Common.{ℕ, true, false, List, [], ◌∷◌, Some, None, codes, refl}
-use Rattle.pz_syntax.specs.declared.clusters.ChannelEnd.TheVariants.{Inner}
-use Rattle.pz_syntax.specs.Expressions.{none, left_out}
-use Rattle.pz_syntax.specs.Statements.{skip, delay, bracketed, send, receive, call, assignment, value}
-use Rattle.pz_syntax.specs.Statements as statement
-use Rattle.pz_syntax.specs.Classes.{process_class, ModelTree}
-use Rattle.pz_value.specs.declared.value.Value.{Value}
+use Rattle.pz_bind_rules.specs.pz_syntax.declared.clusters.ChannelEnd.TheVariants.{Inner}
+use Rattle.pz_bind_rules.specs.pz_syntax.Expressions.{none, left_out}
+use Rattle.pz_bind_rules.specs.pz_syntax.Statements.{skip, delay, bracketed, send, receive, call, assignment, value}
+use Rattle.pz_bind_rules.specs.pz_syntax.Statements as statement
+use Rattle.pz_bind_rules.specs.pz_syntax.Classes.{process_class, ModelTree}
+use Rattle.pz_bind_rules.specs.pz_value.declared.value.Value.{Value}
 use Rattle.pz_rules.specs.declared.action.Kind.TheVariants.{Expire, Call}
 use Rattle.pz_rules.specs.declared.action.Action.{Action}
 use Rattle.pz_rules.specs.declared.action.Action.TheVariants.{Comm}

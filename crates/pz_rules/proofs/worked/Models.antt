@@ -1,29 +1,29 @@
 -- Short forms for worked models: the parts of their text, and where they stand.
 use Rattle.std.specs.Prelude.{ℕ, pos, Bool, List, [], ◌∷◌, Option, Some, None}
-use Rattle.pz_syntax.specs.declared.tokens.Pos.{Pos}
-use Rattle.pz_syntax.specs.declared.names.Id.{Id}
-use Rattle.pz_syntax.specs.declared.classes.VarGroup.{VarGroup}
-use Rattle.pz_syntax.specs.declared.classes.Message.{Message}
-use Rattle.pz_syntax.specs.declared.clusters.Instance.{Instance}
-use Rattle.pz_syntax.specs.declared.clusters.Channel.{Channel}
-use Rattle.pz_syntax.specs.declared.clusters.ChannelEnd.{ChannelEnd}
-use Rattle.pz_syntax.specs.declared.clusters.Given.{Given}
-use Rattle.pz_syntax.specs.declared.clusters.Arg.TheVariants.{Plain}
-use Rattle.pz_syntax.specs.declared.exprs.Literal.TheVariants as literal
-use Rattle.pz_syntax.specs.Expressions.{Expression, Expressions, none, more}
-use Rattle.pz_syntax.specs.Expressions as expression
-use Rattle.pz_syntax.specs.Statements.{Statement, Statements, no_statements, then, Branches, no_branches, branch}
-use Rattle.pz_syntax.specs.Classes.{StartTree, ProcessMethodTree, DeclTree, system, ModelTree}
-use Rattle.pz_value.specs.declared.value.ClassId.{ClassId}
-use Rattle.pz_value.specs.declared.value.Value.{Value}
-use Rattle.pz_value.specs.declared.value.Value.TheVariants as value
-use Rattle.pz_state.specs.Objects.{ObjectView}
+use Rattle.pz_bind_rules.specs.pz_syntax.declared.tokens.Pos.{Pos}
+use Rattle.pz_bind_rules.specs.pz_syntax.declared.names.Id.{Id}
+use Rattle.pz_bind_rules.specs.pz_syntax.declared.classes.VarGroup.{VarGroup}
+use Rattle.pz_bind_rules.specs.pz_syntax.declared.classes.Message.{Message}
+use Rattle.pz_bind_rules.specs.pz_syntax.declared.clusters.Instance.{Instance}
+use Rattle.pz_bind_rules.specs.pz_syntax.declared.clusters.Channel.{Channel}
+use Rattle.pz_bind_rules.specs.pz_syntax.declared.clusters.ChannelEnd.{ChannelEnd}
+use Rattle.pz_bind_rules.specs.pz_syntax.declared.clusters.Given.{Given}
+use Rattle.pz_bind_rules.specs.pz_syntax.declared.clusters.Arg.TheVariants.{Plain}
+use Rattle.pz_bind_rules.specs.pz_syntax.declared.exprs.Literal.TheVariants as literal
+use Rattle.pz_bind_rules.specs.pz_syntax.Expressions.{Expression, Expressions, none, more}
+use Rattle.pz_bind_rules.specs.pz_syntax.Expressions as expression
+use Rattle.pz_bind_rules.specs.pz_syntax.Statements.{Statement, Statements, no_statements, then, Branches, no_branches, branch}
+use Rattle.pz_bind_rules.specs.pz_syntax.Classes.{StartTree, ProcessMethodTree, DeclTree, system, ModelTree}
+use Rattle.pz_bind_rules.specs.pz_value.declared.value.ClassId.{ClassId}
+use Rattle.pz_bind_rules.specs.pz_value.declared.value.Value.{Value}
+use Rattle.pz_bind_rules.specs.pz_value.declared.value.Value.TheVariants as value
+use Rattle.pz_offer.specs.pz_state.Objects.{ObjectView}
 use Rattle.pz_prims.specs.Rows.{answered}
 use Rattle.pz_prims.specs.EveryValue.{every_value}
 use Rattle.pz_prims.specs.Integers.{integers}
 use Rattle.pz_prims.specs.Booleans.{booleans}
 use Rattle.pz_prims.specs.Table.{outcome}
-use Rattle.pz_copy.specs.Parcels.{ParcelView}
+use Rattle.pz_offer.specs.pz_copy.Parcels.{ParcelView}
 use Rattle.pz_eval_rules.specs.devices.Computed.{sequence, arguments, operators, replied, selectors, going, turns, step, evaluated}
 use Rattle.pz_offer.specs.declared.end.End.{End}
 use Rattle.pz_offer.specs.PlaceOrder.{Place}

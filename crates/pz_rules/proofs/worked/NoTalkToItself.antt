@@ -9,11 +9,11 @@
 --   instances p : P
 --   channels {p.o, p.i}
 use Rattle.std.proofs.Common.{true, false, List, [], ◌∷◌, Some, None, codes, refl}
-use Rattle.pz_syntax.specs.declared.clusters.ChannelEnd.TheVariants.{Inner}
-use Rattle.pz_syntax.specs.Expressions.{none, left_out}
-use Rattle.pz_syntax.specs.Statements.{skip, delay, bracketed, send, receive, call, assignment, value}
-use Rattle.pz_syntax.specs.Statements as statement
-use Rattle.pz_syntax.specs.Classes.{process_class, ModelTree}
+use Rattle.pz_bind_rules.specs.pz_syntax.declared.clusters.ChannelEnd.TheVariants.{Inner}
+use Rattle.pz_bind_rules.specs.pz_syntax.Expressions.{none, left_out}
+use Rattle.pz_bind_rules.specs.pz_syntax.Statements.{skip, delay, bracketed, send, receive, call, assignment, value}
+use Rattle.pz_bind_rules.specs.pz_syntax.Statements as statement
+use Rattle.pz_bind_rules.specs.pz_syntax.Classes.{process_class, ModelTree}
 use Rattle.pz_rules.specs.declared.action.Kind.TheVariants.{Call}
 use Rattle.pz_rules.specs.declared.moment.Moment.TheVariants.{Deadlock}
 use Rattle.pz_rules.specs.Terms.{Step, leaf, parallel}

@@ -29,16 +29,16 @@
 --   system instances s : S f : F e : E
 --   channels {s.c, f.c} {f.d, e.d}
 use Rattle.std.proofs.Common.{ℕ, true, false, List, [], ◌∷◌, Some, None, codes, refl}
-use Rattle.pz_syntax.specs.declared.clusters.ChannelEnd.TheVariants.{Inner}
-use Rattle.pz_syntax.specs.declared.exprs.Literal.TheVariants as literal
-use Rattle.pz_syntax.specs.Expressions.{variable, me, clock, creation, chain, sends, assign, returned, none, left_out, written, no_links, link, no_sendings, sending}
-use Rattle.pz_syntax.specs.Expressions as expression
-use Rattle.pz_syntax.specs.Statements.{send, receive, call, assignment, value}
-use Rattle.pz_syntax.specs.Classes.{data_class, process_class, ModelTree}
-use Rattle.pz_value.specs.declared.value.Value.{Value}
-use Rattle.pz_value.specs.declared.value.Value.TheVariants.{Nil, Ref}
-use Rattle.pz_classes_code.specs.declared.slot.Slot.TheVariants.{Shared}
-use Rattle.pz_state.specs.Objects.{ObjectView}
+use Rattle.pz_bind_rules.specs.pz_syntax.declared.clusters.ChannelEnd.TheVariants.{Inner}
+use Rattle.pz_bind_rules.specs.pz_syntax.declared.exprs.Literal.TheVariants as literal
+use Rattle.pz_bind_rules.specs.pz_syntax.Expressions.{variable, me, clock, creation, chain, sends, assign, returned, none, left_out, written, no_links, link, no_sendings, sending}
+use Rattle.pz_bind_rules.specs.pz_syntax.Expressions as expression
+use Rattle.pz_bind_rules.specs.pz_syntax.Statements.{send, receive, call, assignment, value}
+use Rattle.pz_bind_rules.specs.pz_syntax.Classes.{data_class, process_class, ModelTree}
+use Rattle.pz_bind_rules.specs.pz_value.declared.value.Value.{Value}
+use Rattle.pz_bind_rules.specs.pz_value.declared.value.Value.TheVariants.{Nil, Ref}
+use Rattle.pz_bind_rules.specs.pz_classes_code.declared.slot.Slot.TheVariants.{Shared}
+use Rattle.pz_offer.specs.pz_state.Objects.{ObjectView}
 use Rattle.pz_rules.specs.declared.action.Kind.TheVariants.{Eval, Call}
 use Rattle.pz_rules.specs.declared.action.Action.{Action}
 use Rattle.pz_rules.specs.declared.action.Action.TheVariants.{Comm}

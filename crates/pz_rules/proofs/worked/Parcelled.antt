@@ -1,13 +1,13 @@
 -- The parcel of values, computed.
 use Rattle.std.proofs.Common.{◌≡◌, ℕ, zero, suc, List, [], map, length, Option, Some, None, refl, subst, sym, ◌∙◌}
 use Rattle.std.specs.Prelude.{slice_get}
-use Rattle.pz_value.specs.declared.value.Value.{Value}
-use Rattle.pz_state.specs.States.{StateView}
-use Rattle.pz_copy.specs.References.{references, renumbered}
-use Rattle.pz_copy.specs.Parcels.{ParcelView}
-use Rattle.pz_copy.specs.Packing.{IsListing, place_in, packed_objects, IsParcelOf}
-use Rattle.pz_copy.specs.devices.Gathering.{gathered, IsGathered}
-use Rattle.pz_copy.proofs.Listings.{inside, begun, gathered_on, gathered_whole}
+use Rattle.pz_bind_rules.specs.pz_value.declared.value.Value.{Value}
+use Rattle.pz_offer.specs.pz_state.States.{StateView}
+use Rattle.pz_offer.specs.pz_copy.References.{references, renumbered}
+use Rattle.pz_offer.specs.pz_copy.Parcels.{ParcelView}
+use Rattle.pz_offer.specs.pz_copy.Packing.{IsListing, place_in, packed_objects, IsParcelOf}
+use Rattle.pz_offer.specs.pz_copy.devices.Gathering.{gathered, IsGathered}
+use Rattle.pz_offer.proofs.pz_copy_proofs.Listings.{inside, begun, gathered_on, gathered_whole}
 use Rattle.pz_rules.proofs.Locals.{some_is, no_some}
 use Rattle.pz_rules.proofs.Parcels.{past, the_parcel, parcel_is, parcel_once}
 

@@ -4,10 +4,10 @@ use Rattle.std.specs.Prelude.{slice_get, nat_eq, nat_le, ◌&&◌}
 use Rattle.std.specs.List.{All, Contains, list_any, list_all}
 use Rattle.std.proofs.lemmas.Bool.{leb-true, and_parts, and_cases}
 use Rattle.std.proofs.lemmas.List.Elements.{All-nil, All-cons, All-contains}
-use Rattle.pz_classes.specs.Starts.{init}
+use Rattle.pz_bind_rules.specs.pz_classes_rules.Starts.{init}
 use Rattle.pz_bind_levels.specs.Places.{Address}
-use Rattle.pz_bind.specs.Nest.{processes, class_at}
-use Rattle.pz_copy.specs.Parcels.{ParcelView}
+use Rattle.pz_bind_rules.specs.Nest.{processes, class_at}
+use Rattle.pz_offer.specs.pz_copy.Parcels.{ParcelView}
 use Rattle.pz_offer.specs.declared.trouble.Trouble.{Trouble}
 use Rattle.pz_rules.specs.declared.action.Action.{Action}
 use Rattle.pz_rules.specs.declared.moment.Moment.{Moment}

@@ -10,11 +10,11 @@
 --   system instances p : P q : Q r : Q
 use Rattle.std.proofs.Common.{◌≡◌, ◌≤◌, ◌<◌, ℕ, zero, suc, [], ◌∷◌, Some, None, codes, refl, subst, arith}
 use Rattle.std.specs.Prelude.{slice_get}
-use Rattle.pz_syntax.specs.Expressions.{none}
-use Rattle.pz_syntax.specs.Statements.{Statements, skip}
-use Rattle.pz_syntax.specs.Statements as statement
-use Rattle.pz_syntax.specs.Classes.{DeclTree, process_class, ModelTree}
-use Rattle.pz_syntax.specs.declared.names.Id.{Id}
+use Rattle.pz_bind_rules.specs.pz_syntax.Expressions.{none}
+use Rattle.pz_bind_rules.specs.pz_syntax.Statements.{Statements, skip}
+use Rattle.pz_bind_rules.specs.pz_syntax.Statements as statement
+use Rattle.pz_bind_rules.specs.pz_syntax.Classes.{DeclTree, process_class, ModelTree}
+use Rattle.pz_bind_rules.specs.pz_syntax.declared.names.Id.{Id}
 use Rattle.pz_offer.specs.declared.trouble.Trouble.TheVariants.{High}
 use Rattle.pz_rules.specs.declared.limits.Edition.TheVariants.{Two}
 use Rattle.pz_rules.specs.declared.moment.Moment.TheVariants.{Stopped}

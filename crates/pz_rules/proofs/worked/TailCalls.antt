@@ -9,11 +9,11 @@
 --   e()() skip
 --   system instances p : P
 use Rattle.std.proofs.Common.{◌≡◌, ℕ, List, [], ◌∷◌, map, Some, None, codes, refl}
-use Rattle.pz_syntax.specs.Expressions.{none}
-use Rattle.pz_syntax.specs.Statements.{Statement, skip, call}
-use Rattle.pz_syntax.specs.Statements as statement
-use Rattle.pz_syntax.specs.Classes.{process_class, ModelTree}
-use Rattle.pz_state.specs.States.{StateView, initial}
+use Rattle.pz_bind_rules.specs.pz_syntax.Expressions.{none}
+use Rattle.pz_bind_rules.specs.pz_syntax.Statements.{Statement, skip, call}
+use Rattle.pz_bind_rules.specs.pz_syntax.Statements as statement
+use Rattle.pz_bind_rules.specs.pz_syntax.Classes.{process_class, ModelTree}
+use Rattle.pz_offer.specs.pz_state.States.{StateView, initial}
 use Rattle.pz_rules.specs.declared.limits.Edition.TheVariants.{Two}
 use Rattle.pz_rules.specs.declared.action.Kind.TheVariants.{Skip}
 use Rattle.pz_rules.specs.declared.moment.Moment.TheVariants.{Finished}

@@ -7,11 +7,11 @@
 --   b()() skip
 --   system instances p : P
 use Rattle.std.proofs.Common.{ℕ, List, [], ◌∷◌, map, Some, None, codes, refl}
-use Rattle.pz_syntax.specs.Expressions.{none}
-use Rattle.pz_syntax.specs.Statements.{skip, delay, bracketed, send, receive, call, assignment, value}
-use Rattle.pz_syntax.specs.Statements as statement
-use Rattle.pz_syntax.specs.Classes.{process_class, ModelTree}
-use Rattle.pz_state.specs.States.{Frames}
+use Rattle.pz_bind_rules.specs.pz_syntax.Expressions.{none}
+use Rattle.pz_bind_rules.specs.pz_syntax.Statements.{skip, delay, bracketed, send, receive, call, assignment, value}
+use Rattle.pz_bind_rules.specs.pz_syntax.Statements as statement
+use Rattle.pz_bind_rules.specs.pz_syntax.Classes.{process_class, ModelTree}
+use Rattle.pz_offer.specs.pz_state.States.{Frames}
 use Rattle.pz_rules.specs.declared.action.Kind.TheVariants.{Skip, Call}
 use Rattle.pz_rules.specs.declared.moment.Moment.TheVariants.{Finished}
 use Rattle.pz_rules.specs.Terms.{Step, Term, done, leaf, parallel, frame}

@@ -2,15 +2,15 @@
 use Rattle.std.proofs.Common.{◌≡◌, inl, inr, ◌⊎◌, ℕ, zero, suc, Bool, true, false, List, [], ◌∷◌, Option, Some, None, refl, sym, subst, ap, ◌∙◌, slice_get}
 use Rattle.std.specs.Prelude.{◌&&◌}
 use Rattle.std.proofs.lemmas.Bool.{and_parts}
-use Rattle.pz_syntax.specs.declared.clusters.Instance.{Instance}
-use Rattle.pz_syntax.specs.declared.clusters.Channel.{Channel as Written}
-use Rattle.pz_syntax.specs.Classes.{ModelTree}
-use Rattle.pz_classes.specs.Members.{ports, spelled}
+use Rattle.pz_bind_rules.specs.pz_syntax.declared.clusters.Instance.{Instance}
+use Rattle.pz_bind_rules.specs.pz_syntax.declared.clusters.Channel.{Channel as Written}
+use Rattle.pz_bind_rules.specs.pz_syntax.Classes.{ModelTree}
+use Rattle.pz_bind_rules.specs.pz_classes_rules.Members.{ports, spelled}
 use Rattle.pz_bind_levels.specs.Places.{Address}
 use Rattle.pz_bind_levels.specs.Wires.{Channel, channel}
-use Rattle.pz_bind.specs.Nest.{processes, class_at, instance_at, channels_at}
-use Rattle.pz_bind.specs.Connections.{end, names_inner, is_in, Leads, itself}
-use Rattle.pz_bind.specs.Wires.{wires, HasWire}
+use Rattle.pz_bind_rules.specs.Nest.{processes, class_at, instance_at, channels_at}
+use Rattle.pz_bind_rules.specs.Connections.{end, names_inner, is_in, Leads, itself}
+use Rattle.pz_bind_rules.specs.Wires.{wires, HasWire}
 use Rattle.pz_rules.specs.Ports.{IsWire}
 use Rattle.pz_rules.proofs.Locals.{some_is}
 use Rattle.pz_rules.proofs.Wires.{by_in, joined_top, lead_cases, Onwards}

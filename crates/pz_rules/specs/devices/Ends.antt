@@ -1,6 +1,6 @@
 -- What a simulator needs to come to an end, and to find what a statement names.
 use Rattle.std.specs.Prelude.{◌<◌, ℕ}
-use Rattle.pz_syntax.specs.Classes.{ModelTree}
+use Rattle.pz_bind_rules.specs.pz_syntax.Classes.{ModelTree}
 use Rattle.pz_offer.specs.PlaceOrder.{Place}
 use Rattle.pz_rules.specs.declared.moment.Moment.TheVariants.{Time}
 use Rattle.pz_rules.specs.Terms.{Term}

@@ -1,11 +1,11 @@
 -- What the evaluations of a process give, computed.
 use Rattle.std.specs.Prelude.{ℕ, Bool, List, [], Result, Ok}
-use Rattle.pz_syntax.specs.declared.tokens.Pos.{Pos}
-use Rattle.pz_syntax.specs.Expressions.{Part, left_out, written}
-use Rattle.pz_value.specs.declared.value.ClassId.{ClassId}
-use Rattle.pz_value.specs.declared.value.Value.{Value}
-use Rattle.pz_classes_code.specs.declared.slot.Slot.{Slot}
-use Rattle.pz_state.specs.States.{StateView}
+use Rattle.pz_bind_rules.specs.pz_syntax.declared.tokens.Pos.{Pos}
+use Rattle.pz_bind_rules.specs.pz_syntax.Expressions.{Part, left_out, written}
+use Rattle.pz_bind_rules.specs.pz_value.declared.value.ClassId.{ClassId}
+use Rattle.pz_bind_rules.specs.pz_value.declared.value.Value.{Value}
+use Rattle.pz_bind_rules.specs.pz_classes_code.declared.slot.Slot.{Slot}
+use Rattle.pz_offer.specs.pz_state.States.{StateView}
 use Rattle.pz_offer.specs.declared.trouble.Trouble.{Trouble}
 use Rattle.pz_eval_rules.specs.devices.Computed.{Reached}
 use Rattle.pz_eval_rules.specs.devices.Outcomes.{reached_value, reached_list, outcome_of, listed_of, state_after}

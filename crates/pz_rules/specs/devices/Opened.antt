@@ -1,13 +1,13 @@
 -- How many delays what opens may bring, in whatever way statements open.
 use Rattle.std.specs.Prelude.{◌≡◌, ◌≤◌, ℕ, ◌+◌, List, Some}
 use Rattle.std.specs.List.{sum_by}
-use Rattle.pz_syntax.specs.ModelForm.{Each}
-use Rattle.pz_syntax.specs.Statements.{Statement, delay, bracketed, guarded, parallel, select, conditional, repeated, abort, interrupt, Statements, no_statements, then, StatementPart, not_written, otherwise, Branches, no_branches, branch}
-use Rattle.pz_syntax.specs.Classes.{ModelTree}
-use Rattle.pz_classes.specs.Starts.{init}
+use Rattle.pz_bind_rules.specs.pz_syntax.ModelForm.{Each}
+use Rattle.pz_bind_rules.specs.pz_syntax.Statements.{Statement, delay, bracketed, guarded, parallel, select, conditional, repeated, abort, interrupt, Statements, no_statements, then, StatementPart, not_written, otherwise, Branches, no_branches, branch}
+use Rattle.pz_bind_rules.specs.pz_syntax.Classes.{ModelTree}
+use Rattle.pz_bind_rules.specs.pz_classes_rules.Starts.{init}
 use Rattle.pz_classes_beginnings.specs.Beginning.{statements_in_all, all_plain_calls}
 use Rattle.pz_classes_openings.specs.Openings.{called, of_called, opened_to}
-use Rattle.pz_state.specs.States.{StateView}
+use Rattle.pz_offer.specs.pz_state.States.{StateView}
 use Rattle.pz_rules.specs.Terms as terms
 use Rattle.pz_rules.specs.Terms.{Step, Steps, Term, done, leaf, wait, sequence, frame, idle, handling, Terms, no_terms, and}
 use Rattle.pz_rules.specs.Settings.{Setting, Home}

@@ -1,13 +1,13 @@
 -- What statements open as but for the numbers of frames, of which each is 0: so no state plays a part.
 use Rattle.std.specs.Prelude.{◌≡◌, ℕ, zero, suc, [], Option, Some, None}
-use Rattle.pz_syntax.specs.declared.tokens.Pos.{Pos}
-use Rattle.pz_syntax.specs.declared.names.Id.{Id}
-use Rattle.pz_syntax.specs.Expressions.{none}
-use Rattle.pz_syntax.specs.Statements.{bracketed, guarded, parallel, select, abort, interrupt, call, no_statements, then, Branches, no_branches, branch}
-use Rattle.pz_value.specs.declared.value.ClassId.{ClassId}
-use Rattle.pz_classes_code.specs.declared.slot.Slot.{Slot}
-use Rattle.pz_classes.specs.Bodies.{BodyTree, data_body, process_body}
-use Rattle.pz_state.specs.States.{StateView}
+use Rattle.pz_bind_rules.specs.pz_syntax.declared.tokens.Pos.{Pos}
+use Rattle.pz_bind_rules.specs.pz_syntax.declared.names.Id.{Id}
+use Rattle.pz_bind_rules.specs.pz_syntax.Expressions.{none}
+use Rattle.pz_bind_rules.specs.pz_syntax.Statements.{bracketed, guarded, parallel, select, abort, interrupt, call, no_statements, then, Branches, no_branches, branch}
+use Rattle.pz_bind_rules.specs.pz_value.declared.value.ClassId.{ClassId}
+use Rattle.pz_bind_rules.specs.pz_classes_code.declared.slot.Slot.{Slot}
+use Rattle.pz_bind_rules.specs.pz_classes_rules.Bodies.{BodyTree, data_body, process_body}
+use Rattle.pz_offer.specs.pz_state.States.{StateView}
 use Rattle.pz_rules.specs.declared.limits.Edition.{Edition}
 use Rattle.pz_rules.specs.declared.limits.Edition.TheVariants.{One, Two}
 use Rattle.pz_rules.specs.Terms.{Step, Steps, Term, done, leaf, wait, sequence, frame, idle, handling, Terms, no_terms, and, height}

@@ -1,6 +1,6 @@
 -- How many delays may have something left: of these only so many passings of time can follow each other.
 use Rattle.std.specs.Prelude.{ℕ, zero, suc, ◌+◌, List, [], ◌∷◌}
-use Rattle.pz_syntax.specs.Statements.{delay}
+use Rattle.pz_bind_rules.specs.pz_syntax.Statements.{delay}
 use Rattle.pz_rules.specs.Terms.{Step, Term, done, leaf, wait, sequence, parallel, select, guarded, frame, abort, idle, handling, Terms, no_terms, and}
 use Rattle.pz_rules.specs.Settings.{Process}
 

@@ -1,12 +1,12 @@
 -- Why the clock stays low: each passing brings a delay of which something is left to nothing, and delays
 -- are opened by the start and by actions alone.
 use Rattle.std.specs.Prelude.{◌≡◌, ℕ, suc, ◌+◌, ◌*◌, ◌<◌, ◌≤◌, ◌^◌, List, Some, Ok, slice_get}
-use Rattle.pz_syntax.specs.Classes.{ModelTree}
-use Rattle.pz_syntax.specs.ModelText.{HasFewMarks}
-use Rattle.pz_classes.specs.Soundness.{IsSound}
+use Rattle.pz_bind_rules.specs.pz_syntax.Classes.{ModelTree}
+use Rattle.pz_bind_rules.specs.pz_syntax.ModelText.{HasFewMarks}
+use Rattle.pz_bind_rules.specs.pz_classes_rules.Soundness.{IsSound}
 use Rattle.pz_classes_openings.specs.OpeningRules.{Opens}
 use Rattle.pz_bind_levels.specs.Places.{Address}
-use Rattle.pz_bind.specs.Nest.{processes, class_at}
+use Rattle.pz_bind_rules.specs.Nest.{processes, class_at}
 use Rattle.pz_rules.specs.declared.limits.Edition.{Edition}
 use Rattle.pz_rules.specs.declared.limits.Edition.TheVariants.{One, Two}
 use Rattle.pz_rules.specs.declared.action.Action.{Action}

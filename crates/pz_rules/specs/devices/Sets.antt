@@ -1,6 +1,6 @@
 -- Statements and bodies that are merely equal are equal.
 use Rattle.std.specs.Prelude.{Option}
-use Rattle.pz_classes.specs.Bodies.{BodyTree}
+use Rattle.pz_bind_rules.specs.pz_classes_rules.Bodies.{BodyTree}
 use Rattle.pz_rules.specs.Terms.{Step}
 
 abbrev pub StatementsAreASet : Type 0

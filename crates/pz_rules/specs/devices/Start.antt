@@ -1,11 +1,11 @@
 -- The configuration with which a model starts, computed.
 use Rattle.std.specs.Prelude.{map, Option, Some, None}
-use Rattle.pz_classes.specs.Soundness.{IsSound}
-use Rattle.pz_classes.specs.Starts.{init}
+use Rattle.pz_bind_rules.specs.pz_classes_rules.Soundness.{IsSound}
+use Rattle.pz_bind_rules.specs.pz_classes_rules.Starts.{init}
 use Rattle.pz_bind_levels.specs.Places.{Address}
-use Rattle.pz_bind.specs.Nest.{processes, class_at}
-use Rattle.pz_bind.specs.Values.{values_at}
-use Rattle.pz_state.specs.States.{initial}
+use Rattle.pz_bind_rules.specs.Nest.{processes, class_at}
+use Rattle.pz_bind_rules.specs.Values.{values_at}
+use Rattle.pz_offer.specs.pz_state.States.{initial}
 use Rattle.pz_rules.specs.Terms.{Step, done}
 use Rattle.pz_rules.specs.Settings.{Setting, Process, left_by}
 use Rattle.pz_rules.specs.Configurations.{Config}

@@ -1,20 +1,20 @@
 -- What is said of a run that a script drives.
 use Rattle.std.specs.Prelude.{◌≡◌, ◌≤◌, ℕ, List, length}
-use Rattle.pz_syntax.specs.Classes.{ModelTree}
-use Rattle.pz_syntax.specs.ModelText.{text}
-use Rattle.pz_classes.specs.Soundness.{IsSound}
-use Rattle.pz_classes_openings.specs.OpeningRules.{Opens}
-use Rattle.pz_env_script.specs.declared.entry.Entry.{Entry}
-use Rattle.pz_env_tree.specs.pz_env_rules.Text.{drive_header}
-use Rattle.pz_run_playing.specs.RunText.{text_under}
-use Rattle.pz_run.specs.Limits.{model_limit}
-use Rattle.pz_run.specs.declared.play.Play.{Play}
-use Rattle.pz_run.specs.declared.status.Status.{Status}
-use Rattle.pz_run.specs.declared.status.Status.TheVariants.{ScriptRefused}
-use Rattle.pz_run.specs.Plays.{RunOf, DrivenRunOf}
-use Rattle.pz_run.specs.Scripts.{IsScriptFor, IsScriptRefused}
-use Rattle.pz_run.specs.Status.{status_of}
-use Rattle.pz_run.specs.Output.{PrintsDriven}
+use Rattle.pz_bind.specs.pz_syntax.Classes.{ModelTree}
+use Rattle.pz_bind.specs.pz_syntax.ModelText.{text}
+use Rattle.pz_bind.specs.pz_classes_rules.Soundness.{IsSound}
+use Rattle.pz_run_output.specs.pz_classes_openings.OpeningRules.{Opens}
+use Rattle.pz_run_output.specs.pz_env_closing.pz_env_script.declared.entry.Entry.{Entry}
+use Rattle.pz_run_output.specs.pz_env_closing.pz_env_rules.Text.{drive_header}
+use Rattle.pz_run_output.specs.pz_env_closing.pz_run_playing.RunText.{text_under}
+use Rattle.pz_run_output.specs.Limits.{model_limit}
+use Rattle.pz_run_output.specs.declared.play.Play.{Play}
+use Rattle.pz_run_output.specs.declared.status.Status.{Status}
+use Rattle.pz_run_output.specs.declared.status.Status.TheVariants.{ScriptRefused}
+use Rattle.pz_run_output.specs.Plays.{RunOf, DrivenRunOf}
+use Rattle.pz_run_output.specs.Scripts.{IsScriptFor, IsScriptRefused}
+use Rattle.pz_run_output.specs.Status.{status_of}
+use Rattle.pz_run_output.specs.Output.{PrintsDriven}
 
 -- a sound model that opens, of a text within the limit
 pub record IsSmallOpen (m : ModelTree) : Type 0 where

@@ -1,6 +1,6 @@
 -- What a listener has heard of a run, and what it will write for the next event.
 use Rattle.std.specs.Prelude.{◌≤◌, ◌<◌, ℕ, List, length}
-use Rattle.pz_syntax.specs.Classes.{ModelTree}
+use Rattle.pz_rules.specs.pz_syntax.Classes.{ModelTree}
 use Rattle.pz_rules.specs.Runs.{Event}
 use Rattle.pz_watch.specs.Points.{Point, clock_at, AreInOrder}
 use Rattle.pz_watch.specs.Files.{NamedFormula}

@@ -1,7 +1,7 @@
 -- What is known of runs, of names and of writing, by the laws of the crates below.
 use Rattle.pz_rules.specs.Laws.{WiresAreKnown, OneMoment, EveryMoment, MomentsCountOffers, TimeIsPositive, EveryPassing, StaysWhole, StartFits, StaysFit, EveryNext, EveryChosenRun, ChosenRunsAreRuns}
 use Rattle.pz_rules.specs.devices.Ends.{PassingsEnd}
-use Rattle.pz_trace.specs.Laws.{OffersAreNamed, FaultsAreNamed, HighsAreNamed, StopsAreNamed}
+use Rattle.pz_watch_points.specs.pz_trace.Laws.{OffersAreNamed, FaultsAreNamed, HighsAreNamed, StopsAreNamed}
 use Rattle.pz_term_simulator.specs.Laws.{OneMomentOf, OffersAreThere, OffersAreCounted, OffersAreNumbered, OffersAreDerived, OneOfferOf}
 use Rattle.pz_term_simulator.specs.devices.Room.{StartsWithRoom, ChoicesTakeRoom, PassingsTakeNoRoom, RoomMeansLow, LessRoomToo}
 use Rattle.pz_io.specs.Laws.{NothingIsWritten, PiecesJoin, HaltsBeforeMore, MemoryMayBeWanting}

@@ -1,8 +1,8 @@
 -- What is left of a chosen run from where a simulator stands.
 use Rattle.std.specs.Prelude.{◌≡◌, ℕ, true, List, [], Option}
-use Rattle.pz_syntax.specs.Classes.{ModelTree}
-use Rattle.pz_classes.specs.Soundness.{IsSound}
-use Rattle.pz_offer.specs.declared.trouble.Trouble.{Trouble}
+use Rattle.pz_rules.specs.pz_syntax.Classes.{ModelTree}
+use Rattle.pz_rules.specs.pz_classes_rules.Soundness.{IsSound}
+use Rattle.pz_rules.specs.pz_offer.declared.trouble.Trouble.{Trouble}
 use Rattle.pz_bind.specs.declared.net.Net.{Net}
 use Rattle.pz_bind.specs.devices.Nets.{IsNet}
 use Rattle.pz_rules.specs.declared.moment.Moment.TheVariants.{Time}
@@ -13,7 +13,7 @@ use Rattle.pz_rules.specs.Configurations.{Config, IsWhole}
 use Rattle.pz_rules.specs.Runs.{Event, Standing, whole, stopped, Reaches, Ending, troubled}
 use Rattle.pz_rules.specs.ChosenRuns.{Policy, IsChosenRun, is_beyond}
 use Rattle.pz_rules.specs.devices.Pending.{list_pending}
-use Rattle.pz_trace.specs.Named.{HasTroubled}
+use Rattle.pz_watch_points.specs.pz_trace.Named.{HasTroubled}
 use Rattle.pz_term_simulator.specs.Simulations.{Simulation, stands, broken, IsMomentOf, clock_in}
 use Rattle.pz_run_playing.specs.Playing.{EndsAs}
 

@@ -3,8 +3,8 @@ use Rattle.pz_lexer.specs.declared.error.LexError.{LexError}
 use Rattle.pz_lexer.specs.declared.error.LexError.TheVariants as lex
 use Rattle.pz_parser.specs.declared.error.ParseError.{ParseError}
 use Rattle.pz_parser.specs.declared.error.ParseError.TheVariants as parse
-use Rattle.pz_classes.specs.declared.error.BuildError.{BuildError}
-use Rattle.pz_classes.specs.declared.error.BuildError.TheVariants as classes
+use Rattle.pz_bind.specs.pz_classes.declared.error.BuildError.{BuildError}
+use Rattle.pz_bind.specs.pz_classes.declared.error.BuildError.TheVariants as classes
 use Rattle.pz_check.specs.declared.error.CheckError.{CheckError}
 use Rattle.pz_check.specs.declared.error.CheckError.TheVariants as check
 use Rattle.pz_run_reading.specs.declared.refusal.Refusal.TheVariants as refusal

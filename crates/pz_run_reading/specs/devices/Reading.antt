@@ -1,9 +1,9 @@
 -- What the parts of the reading of a model hand to each other.
 use Rattle.std.specs.Prelude.{◌≡◌, ℕ, List, Result, MatchResult}
-use Rattle.pz_syntax.specs.declared.tokens.Token.{Token}
-use Rattle.pz_syntax.specs.declared.clusters.Model.{Model}
-use Rattle.pz_syntax.specs.Classes.{ModelTree}
-use Rattle.pz_syntax.specs.ClassView.{model_view}
+use Rattle.pz_bind_rules.specs.pz_syntax.declared.tokens.Token.{Token}
+use Rattle.pz_bind_rules.specs.pz_syntax.declared.clusters.Model.{Model}
+use Rattle.pz_bind_rules.specs.pz_syntax.Classes.{ModelTree}
+use Rattle.pz_bind_rules.specs.pz_syntax.ClassView.{model_view}
 use Rattle.pz_lexer.specs.Tokens.{AreTokens}
 use Rattle.pz_run_reading.specs.Models.{IsTreeOf}
 use Rattle.pz_run_reading.specs.Refusals.{IsViolation}

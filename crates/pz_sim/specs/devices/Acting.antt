@@ -1,11 +1,11 @@
 -- What trees, and what is kept of them, are after an action.
 use Rattle.std.specs.Prelude.{◌≡◌, ◌≤◌, ◌+◌, ◌*◌, ℕ, List, map, Some, Result, Ok, Err, ⊤, slice_get, slice_set}
-use Rattle.pz_syntax.specs.Classes.{ModelTree}
-use Rattle.pz_classes.specs.CheckedView.{checked_model}
-use Rattle.pz_copy.specs.Parcels.{ParcelView}
-use Rattle.pz_offer.specs.declared.end.End.{End}
-use Rattle.pz_offer.specs.declared.trouble.Trouble.{Trouble}
-use Rattle.pz_offer.specs.PlaceOrder.{Place}
+use Rattle.pz_rules.specs.pz_syntax.Classes.{ModelTree}
+use Rattle.pz_bind.specs.pz_classes.CheckedView.{checked_model}
+use Rattle.pz_rules.specs.pz_copy.Parcels.{ParcelView}
+use Rattle.pz_rules.specs.pz_offer.declared.end.End.{End}
+use Rattle.pz_rules.specs.pz_offer.declared.trouble.Trouble.{Trouble}
+use Rattle.pz_rules.specs.pz_offer.PlaceOrder.{Place}
 use Rattle.pz_match.specs.declared.offers.Sender.{Sender}
 use Rattle.pz_match.specs.Table.{Table}
 use Rattle.pz_rules.specs.declared.action.Action.{Action}
@@ -22,7 +22,7 @@ use Rattle.pz_sim_laws.specs.Deciding.{total_of}
 use Rattle.pz_sim_laws.specs.Leading.{LeadsTo}
 use Rattle.pz_tree.specs.Deeds.{Answers}
 use Rattle.pz_tree.specs.Deeds.{Ability, CanDo, CanSend, Leaves}
-use Rattle.pz_tree_standing.specs.Frames.{FramesStand}
+use Rattle.pz_tree.specs.pz_tree_standing.Frames.{FramesStand}
 use Rattle.pz_tree.specs.declared.tree.Tree.{Tree}
 use Rattle.pz_tree.specs.Acting.{answered}
 use Rattle.pz_tree.specs.Trees.{IsFresh, at_in, term_in, process_in}

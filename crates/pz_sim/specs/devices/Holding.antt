@@ -12,7 +12,7 @@ use Rattle.pz_sim_laws.specs.Members.{config_of, AreMembers}
 use Rattle.pz_sim_laws.specs.Deciding.{total_of, total_of_all, decided}
 use Rattle.pz_tree.specs.declared.tree.Tree.{Tree}
 use Rattle.pz_tree.specs.Trees.{IsFresh, term_in, process_in}
-use Rattle.pz_tree_standing.specs.Frames.{FramesStand}
+use Rattle.pz_tree.specs.pz_tree_standing.Frames.{FramesStand}
 use Rattle.pz_sim.specs.Members.{members_of}
 use Rattle.pz_sim.specs.declared.standing.Standing.{Standing}
 use Rattle.pz_sim.specs.declared.standing.Standing.TheVariants as standing

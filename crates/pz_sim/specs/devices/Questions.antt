@@ -1,11 +1,11 @@
 -- What the trees of processes say to questions about pairs.
 use Rattle.std.specs.Prelude.{◌≡◌, ℕ, List, Option, Some, None, slice_get}
-use Rattle.pz_syntax.specs.Classes.{ModelTree}
-use Rattle.pz_copy.specs.Parcels.{ParcelView}
-use Rattle.pz_offer.specs.declared.end.End.{End}
-use Rattle.pz_offer.specs.declared.ends.Verdict.{Verdict}
-use Rattle.pz_offer.specs.declared.ends.Verdict.TheVariants.{No}
-use Rattle.pz_offer.specs.PlaceOrder.{Place}
+use Rattle.pz_rules.specs.pz_syntax.Classes.{ModelTree}
+use Rattle.pz_rules.specs.pz_copy.Parcels.{ParcelView}
+use Rattle.pz_rules.specs.pz_offer.declared.end.End.{End}
+use Rattle.pz_rules.specs.pz_offer.declared.ends.Verdict.{Verdict}
+use Rattle.pz_rules.specs.pz_offer.declared.ends.Verdict.TheVariants.{No}
+use Rattle.pz_rules.specs.pz_offer.PlaceOrder.{Place}
 use Rattle.pz_sim_laws.specs.Elapsing.{HasReceive}
 use Rattle.pz_sim_laws.specs.devices.Saying.{said_at, verdict_of}
 use Rattle.pz_tree.specs.declared.tree.Tree.{Tree}

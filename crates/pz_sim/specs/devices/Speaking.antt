@@ -1,6 +1,6 @@
 -- Trees that may be asked what their processes offer.
 use Rattle.std.specs.Prelude.{◌≡◌, ℕ}
-use Rattle.pz_syntax.specs.Classes.{ModelTree}
+use Rattle.pz_rules.specs.pz_syntax.Classes.{ModelTree}
 use Rattle.pz_rules.specs.Fitting.{TermFits}
 use Rattle.pz_tree.specs.declared.tree.Tree.{Tree}
 use Rattle.pz_tree.specs.Trees.{term_in, IsFresh}

@@ -1,8 +1,8 @@
 -- Tables of pairs of processes of which some are silent for a while: such a one is as if nothing were left of it.
 use Rattle.std.specs.Prelude.{◌≡◌, ◌≢◌, ◌<◌, ◌⊎◌, ℕ, false, List, length, All, Some, slice_get}
-use Rattle.pz_syntax.specs.Classes.{ModelTree}
-use Rattle.pz_offer.specs.declared.ends.SendOffer.{SendOffer}
-use Rattle.pz_offer.specs.declared.ends.ReceiveOffer.{ReceiveOffer}
+use Rattle.pz_rules.specs.pz_syntax.Classes.{ModelTree}
+use Rattle.pz_rules.specs.pz_offer.declared.ends.SendOffer.{SendOffer}
+use Rattle.pz_rules.specs.pz_offer.declared.ends.ReceiveOffer.{ReceiveOffer}
 use Rattle.pz_match.specs.Pairs.{ArePairs}
 use Rattle.pz_match.specs.Table.{Table, all_senders, all_receivers}
 use Rattle.pz_rules.specs.Fitting.{TermFits}

@@ -1,21 +1,21 @@
 -- What the receive at a place says to a parcel, computed.
 use Rattle.std.specs.Prelude.{◌≡◌, ◌+◌, ℕ, Bool, true, false, nat_le, if◌then◌else◌, List, [], ◌∷◌, length, Option, Some, None, Result, Ok, Err}
-use Rattle.pz_syntax.specs.declared.tokens.Pos.{Pos}
-use Rattle.pz_syntax.specs.Statements.{receive}
-use Rattle.pz_classes_code.specs.declared.slot.Slot.{Slot}
-use Rattle.pz_copy.specs.Parcels.{ParcelView}
-use Rattle.pz_state.specs.States.{object_limit}
-use Rattle.pz_state.specs.declared.fault.FaultKind.TheVariants.{StoreFull}
-use Rattle.pz_offer.specs.declared.trouble.Trouble.{Trouble}
-use Rattle.pz_offer.specs.declared.ends.Verdict.{Verdict}
-use Rattle.pz_offer.specs.declared.ends.Verdict.TheVariants as says
-use Rattle.pz_offer.specs.PlaceOrder.{Place}
-use Rattle.pz_rules.specs.Terms.{Code, Step, Term, leaf, child, frame_in}
-use Rattle.pz_rules.specs.Settings.{Context, in_state}
-use Rattle.pz_rules.specs.Laws.{part_of}
-use Rattle.pz_rules.specs.Meanings.{fault}
-use Rattle.pz_rules.specs.Messages.{bound}
-use Rattle.pz_rules.specs.devices.Found.{tested}
+use Rattle.pz_tree_standing.specs.pz_syntax.declared.tokens.Pos.{Pos}
+use Rattle.pz_tree_standing.specs.pz_syntax.Statements.{receive}
+use Rattle.pz_tree_standing.specs.pz_classes_code.declared.slot.Slot.{Slot}
+use Rattle.pz_tree_standing.specs.pz_copy.Parcels.{ParcelView}
+use Rattle.pz_tree_standing.specs.pz_state.States.{object_limit}
+use Rattle.pz_tree_standing.specs.pz_state.declared.fault.FaultKind.TheVariants.{StoreFull}
+use Rattle.pz_tree_standing.specs.pz_offer.declared.trouble.Trouble.{Trouble}
+use Rattle.pz_tree_standing.specs.pz_offer.declared.ends.Verdict.{Verdict}
+use Rattle.pz_tree_standing.specs.pz_offer.declared.ends.Verdict.TheVariants as says
+use Rattle.pz_tree_standing.specs.pz_offer.PlaceOrder.{Place}
+use Rattle.pz_tree_standing.specs.pz_rules.Terms.{Code, Step, Term, leaf, child, frame_in}
+use Rattle.pz_tree_standing.specs.pz_rules.Settings.{Context, in_state}
+use Rattle.pz_tree_standing.specs.pz_rules.Laws.{part_of}
+use Rattle.pz_tree_standing.specs.pz_rules.Meanings.{fault}
+use Rattle.pz_tree_standing.specs.pz_rules.Messages.{bound}
+use Rattle.pz_tree_standing.specs.pz_rules.devices.Found.{tested}
 use Rattle.pz_sim_laws.specs.Couples.{SaysAt}
 use Rattle.pz_sim_laws.specs.Elapsing.{HasReceive}
 

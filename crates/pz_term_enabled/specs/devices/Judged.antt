@@ -1,8 +1,8 @@
 -- What comes of pairs of sends and receives that are judged one after the other.
 use Rattle.std.specs.Prelude.{◌≡◌, ℕ, Bool, true, false, List, [], ◌∷◌, ◌++◌, take, Option, Some, None, Result, Ok, Err, slice_get}
-use Rattle.pz_copy.specs.Parcels.{ParcelView}
-use Rattle.pz_offer.specs.PlaceOrder.{Place}
-use Rattle.pz_offer.specs.declared.trouble.Trouble.{Trouble}
+use Rattle.pz_rules.specs.pz_copy.Parcels.{ParcelView}
+use Rattle.pz_rules.specs.pz_offer.PlaceOrder.{Place}
+use Rattle.pz_rules.specs.pz_offer.declared.trouble.Trouble.{Trouble}
 use Rattle.pz_rules.specs.declared.action.Action.{Action}
 use Rattle.pz_rules.specs.declared.action.Action.TheVariants.{Comm}
 use Rattle.pz_rules.specs.Terms.{Term}

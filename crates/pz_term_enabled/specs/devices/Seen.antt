@@ -1,10 +1,10 @@
 -- A process of the code, as it stands in a configuration, and the wires of its ports.
 use Rattle.std.specs.Prelude.{◌≡◌, ◌<◌, ℕ, length, Option, Some, slice_get}
-use Rattle.pz_syntax.specs.Classes.{ModelTree}
-use Rattle.pz_classes.specs.Soundness.{IsSound}
-use Rattle.pz_classes.specs.Members.{ports}
+use Rattle.pz_classes_code.specs.pz_syntax.Classes.{ModelTree}
+use Rattle.pz_rules.specs.pz_classes_rules.Soundness.{IsSound}
+use Rattle.pz_rules.specs.pz_classes_rules.Members.{ports}
 use Rattle.pz_bind_levels.specs.Places.{Address}
-use Rattle.pz_bind.specs.Nest.{processes, class_at}
+use Rattle.pz_rules.specs.pz_bind_rules.Nest.{processes, class_at}
 use Rattle.pz_bind.specs.devices.Nets.{IsNet}
 use Rattle.pz_bind.specs.declared.net.Net.{Net}
 use Rattle.pz_rules.specs.Ports.{HasWires}
@@ -12,8 +12,8 @@ use Rattle.pz_rules.specs.Configurations.{Config}
 use Rattle.pz_rules.specs.Fitting.{IsFit}
 use Rattle.pz_term_processes.specs.declared.process.Process.{Process}
 use Rattle.pz_term_processes.specs.Standing.{setting_of, process_view}
-use Rattle.pz_part_queries.specs.declared.standpoint.Standpoint.{Standpoint}
-use Rattle.pz_part_queries.specs.Standpoints.{Knows}
+use Rattle.pz_term_processes.specs.pz_part_queries.declared.standpoint.Standpoint.{Standpoint}
+use Rattle.pz_term_processes.specs.pz_part_queries.Standpoints.{Knows}
 
 -- Process i of the model of this net stands at a place of the system, and the wires are known.
 pub record Wired (m : ModelTree) (net : Net) (i : ℕ) : Type 0 where

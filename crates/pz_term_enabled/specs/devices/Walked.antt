@@ -1,6 +1,6 @@
 -- What the code's walk of a term lists.
 use Rattle.std.specs.Prelude.{◌≡◌, ◌<◌, ◌^◌, ℕ, Bool, true, false, List, [], ◌∷◌, map, Option, Some, None}
-use Rattle.pz_copy.specs.Packing.{IsParcelOf}
+use Rattle.pz_rules.specs.pz_copy.Packing.{IsParcelOf}
 use Rattle.pz_rules.specs.Terms.{Term, wait}
 use Rattle.pz_rules.specs.Settings.{Context}
 use Rattle.pz_rules.specs.devices.Walk as walk

@@ -1,7 +1,7 @@
 -- A term taken apart into levels, and what the levels make of what is left inside.
 use Rattle.std.specs.Prelude.{◌≡◌, ◌<◌, ℕ, List, [], ◌∷◌, length}
 use Rattle.pz_classes_code.specs.StepView.{view, sequence_view}
-use Rattle.pz_state.specs.States.{StateView}
+use Rattle.pz_rules.specs.pz_state.States.{StateView}
 use Rattle.pz_rules.specs.Terms.{Term, done, sequence, parallel, frame, abort, idle, handling, child, frame_in}
 use Rattle.pz_rules.specs.Settings.{Process, left_by, Home}
 use Rattle.pz_rules.specs.Leaving.{around}

@@ -1,7 +1,7 @@
 -- How many actions may follow where a simulator stands, so that the clock stays low.
 use Rattle.std.specs.Prelude.{◌≡◌, ◌≤◌, ◌<◌, ◌+◌, ◌^◌, ℕ, suc}
-use Rattle.pz_syntax.specs.ModelText.{HasFewMarks}
-use Rattle.pz_classes.specs.Soundness.{IsSound}
+use Rattle.pz_rules.specs.pz_syntax.ModelText.{HasFewMarks}
+use Rattle.pz_rules.specs.pz_classes_rules.Soundness.{IsSound}
 use Rattle.pz_classes_openings.specs.OpeningRules.{Opens}
 use Rattle.pz_rules.specs.declared.limits.Edition.TheVariants.{Two}
 use Rattle.pz_rules.specs.declared.moment.Moment.TheVariants.{Time}

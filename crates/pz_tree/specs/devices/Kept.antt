@@ -1,12 +1,12 @@
 -- What is kept of what stands under a key.
 use Rattle.std.specs.Prelude.{◌≡◌, ℕ, Option, Some, None}
 use Rattle.pz_nodes_shapes.specs.Rose.{Map, payload}
-use Rattle.pz_tree_nodes.specs.declared.kept.Kept.{Kept}
-use Rattle.pz_tree_nodes.specs.declared.node.What.{What}
-use Rattle.pz_tree_nodes.specs.Keeping.{kept_done}
-use Rattle.pz_tree_nodes.specs.View.{Plant}
-use Rattle.pz_tree_nodes.specs.Planting.{root_of}
-use Rattle.pz_tree_regrowing.specs.Regrowing.{StandsOption}
+use Rattle.pz_tree_acting.specs.pz_tree_nodes.declared.kept.Kept.{Kept}
+use Rattle.pz_tree_acting.specs.pz_tree_nodes.declared.node.What.{What}
+use Rattle.pz_tree_acting.specs.pz_tree_nodes.Keeping.{kept_done}
+use Rattle.pz_tree_acting.specs.pz_tree_nodes.View.{Plant}
+use Rattle.pz_tree_acting.specs.pz_tree_nodes.Planting.{root_of}
+use Rattle.pz_tree_acting.specs.pz_tree_regrowing.Regrowing.{StandsOption}
 
 abbrev pub kept_of : Option Plant → Kept
 kept_of None = kept_done

@@ -2,16 +2,16 @@
 use Rattle.std.specs.Prelude.{◌≡◌, ℕ, Option}
 use Rattle.pz_nodes_shapes.specs.Rose.{Map}
 use Rattle.pz_nodes_shapes.specs.Seen.{seen}
-use Rattle.pz_offer.specs.PlaceOrder.{Place}
+use Rattle.pz_rules.specs.pz_offer.PlaceOrder.{Place}
 use Rattle.pz_rules.specs.Acting.{IsReceive}
 use Rattle.pz_rules.specs.Laws.{part_of}
 use Rattle.pz_rules.specs.Terms as terms
 use Rattle.pz_rules.specs.View.{term_view}
 use Rattle.pz_rules.specs.declared.term.Term.{Term}
-use Rattle.pz_state.specs.declared.state.FrameId.{FrameId}
-use Rattle.pz_tree_nodes.specs.declared.node.What.{What}
-use Rattle.pz_tree_nodes.specs.View.{what_view}
-use Rattle.pz_tree_nodes.specs.Seeking.{frame_at, StandsUnder}
+use Rattle.pz_rules.specs.pz_state.declared.state.FrameId.{FrameId}
+use Rattle.pz_tree_acting.specs.pz_tree_nodes.declared.node.What.{What}
+use Rattle.pz_tree_acting.specs.pz_tree_nodes.View.{what_view}
+use Rattle.pz_tree_acting.specs.pz_tree_nodes.Seeking.{frame_at, StandsUnder}
 
 pub record IsFoundReceive (f : ℕ) (t : terms.Term) (place : Place) (frame : FrameId) (part : Term) : Type 0 where
   pub in_frame : frame.0 ≡ frame_at f t place

@@ -2,7 +2,7 @@
 use Rattle.std.specs.Prelude.{ℕ, Option, Some, None}
 use Rattle.pz_nodes_shapes.specs.Rose.{Map}
 use Rattle.pz_rules.specs.Settings.{Context}
-use Rattle.pz_tree_nodes.specs.declared.node.What.{What}
+use Rattle.pz_tree_acting.specs.pz_tree_nodes.declared.node.What.{What}
 use Rattle.pz_tree_elapsing.specs.Elapsing.{ElapseRule}
 
 -- the nodes under the key, as they are, stand for what the passing leaves

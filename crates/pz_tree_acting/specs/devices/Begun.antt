@@ -1,15 +1,15 @@
 -- A part that has acted, while all that it did can still be undone; and what becomes of the process when it stays.
 use Rattle.std.specs.Prelude.{◌≡◌, ◌≤◌, ◌+◌, ℕ, List, ◌∷◌, Option, Result, Ok, Err}
-use Rattle.pz_copy.specs.Parcels.{ParcelView}
+use Rattle.pz_rules.specs.pz_copy.Parcels.{ParcelView}
 use Rattle.pz_nodes_shapes.specs.Rose.{Map, has_option}
 use Rattle.pz_nodes_shapes.specs.Change.{BecomesOption}
-use Rattle.pz_offer.specs.PlaceOrder.{Place}
-use Rattle.pz_offer.specs.declared.trouble.Trouble.{Trouble}
+use Rattle.pz_rules.specs.pz_offer.PlaceOrder.{Place}
+use Rattle.pz_rules.specs.pz_offer.declared.trouble.Trouble.{Trouble}
 use Rattle.pz_part_actions.specs.Becoming.{Becomes, process_left}
 use Rattle.pz_part_actions.specs.Homes.{seen_home}
-use Rattle.pz_part_opening.specs.declared.home.Home as opening
-use Rattle.pz_part_opening.specs.Homes.{home_view}
-use Rattle.pz_part_queries.specs.declared.standpoint.Standpoint.{Standpoint}
+use Rattle.pz_part_actions.specs.pz_part_opening.declared.home.Home as opening
+use Rattle.pz_part_actions.specs.pz_part_opening.Homes.{home_view}
+use Rattle.pz_part_actions.specs.pz_part_queries.declared.standpoint.Standpoint.{Standpoint}
 use Rattle.pz_rules.specs.declared.term.Term as code
 use Rattle.pz_rules.specs.Acting.{IsActing, IsSend, IsReceive}
 use Rattle.pz_rules.specs.declared.limits.Edition.{Edition}
@@ -22,15 +22,15 @@ use Rattle.pz_rules.specs.Settings.{Process, Context, left_by, Home}
 use Rattle.pz_rules.specs.Steps.{Deed}
 use Rattle.pz_rules.specs.Terms.{Term}
 use Rattle.pz_rules.specs.View.{term_view}
-use Rattle.pz_state.specs.Marks.{Seen, older}
-use Rattle.pz_state.specs.States.{StateView}
-use Rattle.pz_syntax.specs.declared.tokens.Pos.{Pos}
-use Rattle.pz_tree_standing.specs.FrameCounts.{count_in, times}
-use Rattle.pz_tree_standing.specs.Frames.{open_as, FramesStand, HaveOpened}
-use Rattle.pz_tree_nodes.specs.declared.node.What.{What}
-use Rattle.pz_tree_nodes.specs.View.{Plant, term_in_option}
-use Rattle.pz_tree_nodes.specs.Tended.{TendedOption}
-use Rattle.pz_tree_nodes.specs.Planting.{root_of}
+use Rattle.pz_rules.specs.pz_state.Marks.{Seen, older}
+use Rattle.pz_rules.specs.pz_state.States.{StateView}
+use Rattle.pz_classes_code.specs.pz_syntax.declared.tokens.Pos.{Pos}
+use Rattle.pz_tree_regrowing.specs.pz_tree_standing.FrameCounts.{count_in, times}
+use Rattle.pz_tree_regrowing.specs.pz_tree_standing.Frames.{open_as, FramesStand, HaveOpened}
+use Rattle.pz_tree_regrowing.specs.pz_tree_nodes.declared.node.What.{What}
+use Rattle.pz_tree_regrowing.specs.pz_tree_nodes.View.{Plant, term_in_option}
+use Rattle.pz_tree_regrowing.specs.pz_tree_nodes.Tended.{TendedOption}
+use Rattle.pz_tree_regrowing.specs.pz_tree_nodes.Planting.{root_of}
 use Rattle.pz_rules.specs.Short.{IsShort}
 use Rattle.pz_tree_acting.specs.declared.how.How.{How}
 use Rattle.pz_tree_acting.specs.declared.how.How.TheVariants.{Internal, Send, Receive}

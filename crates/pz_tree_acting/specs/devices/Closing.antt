@@ -4,10 +4,10 @@ use Rattle.pz_rules.specs.declared.limits.Edition.{Edition}
 use Rattle.pz_rules.specs.declared.limits.Edition.TheVariants.{One, Two}
 use Rattle.pz_rules.specs.Terms.{Term, frames_in}
 use Rattle.pz_rules.specs.Leaving.{only_frames}
-use Rattle.pz_state.specs.Marks.{Seen, changed}
-use Rattle.pz_state.specs.States.{StateView}
-use Rattle.pz_tree_standing.specs.Frames.{numbers, open_as, FramesStand}
-use Rattle.pz_tree_standing.specs.FrameCounts.{count_in, times}
+use Rattle.pz_rules.specs.pz_state.Marks.{Seen, changed}
+use Rattle.pz_rules.specs.pz_state.States.{StateView}
+use Rattle.pz_tree_regrowing.specs.pz_tree_standing.Frames.{numbers, open_as, FramesStand}
+use Rattle.pz_tree_regrowing.specs.pz_tree_standing.FrameCounts.{count_in, times}
 
 -- ------------------------------------------------------------ listed
 

@@ -2,9 +2,9 @@
 use Rattle.std.specs.Prelude.{◌≡◌, ℕ, Option}
 use Rattle.pz_nodes_shapes.specs.Rose.{Map}
 use Rattle.pz_rules.specs.Terms.{Term, Terms, leaf, wait}
-use Rattle.pz_tree_standing.specs.Heads.{Head, What, formed}
-use Rattle.pz_tree_standing.specs.Whole.{IsNoShift}
-use Rattle.pz_tree_nodes.specs.Seeking.{StandsUnder, IsBareUnder}
+use Rattle.pz_tree_regrowing.specs.pz_tree_standing.Heads.{Head, What, formed}
+use Rattle.pz_tree_regrowing.specs.pz_tree_standing.Whole.{IsNoShift}
+use Rattle.pz_tree_regrowing.specs.pz_tree_nodes.Seeking.{StandsUnder, IsBareUnder}
 
 abbrev pub IsSimple : Term → Type 0
 IsSimple (leaf s) = Unit {0}

@@ -1,26 +1,26 @@
 -- What is done on one level.
 use Rattle.std.specs.Prelude.{◌≡◌, ◌≤◌, ◌||◌, ◌+◌, ◌*◌, ℕ, suc, Bool, true, false, List, [], ◌∷◌, drop, Option, Some, None}
-use Rattle.pz_eval_rules.specs.Clocks.{DataIsTimeless}
+use Rattle.pz_tree_refreshing.specs.pz_eval_rules.Clocks.{DataIsTimeless}
 use Rattle.pz_nodes_shapes.specs.declared.node.Node.{Node}
 use Rattle.pz_nodes_shapes.specs.Rose.{none, gone, more, Map, root, roots, payload, has, has_any, Stands, StandAll}
 use Rattle.pz_nodes_shapes.specs.Reading.{depth, depths}
-use Rattle.pz_offer.specs.Summaries.{MayShift}
-use Rattle.pz_rules.specs.Settings.{Context}
-use Rattle.pz_rules.specs.devices.Passing.{passed}
-use Rattle.pz_tree_standing.specs.Asked.{asks}
-use Rattle.pz_tree_standing.specs.Steady.{later}
-use Rattle.pz_tree_standing.specs.Heads.{Head, inner_clock}
-use Rattle.pz_tree_standing.specs.Standing.{terms_of, HeadFits}
-use Rattle.pz_tree_standing.specs.Reached.{reaches, behind_inside}
-use Rattle.pz_tree_standing.specs.Right.{RightAll}
-use Rattle.pz_tree_nodes.specs.declared.kept.Kept.{Kept}
-use Rattle.pz_tree_nodes.specs.declared.node.What.{What}
-use Rattle.pz_tree_nodes.specs.Keeping.{joined, kept_later}
-use Rattle.pz_tree_nodes.specs.View.{Plant, Plants, shapes_of, term_in}
-use Rattle.pz_tree_nodes.specs.Tended.{Tended}
-use Rattle.pz_tree_nodes.specs.Fresh.{Fresh, AllFlagged}
-use Rattle.pz_rules.specs.Short.{IsShort, AreShort}
-use Rattle.pz_tree_standing.specs.Soon.{HasRoom, IsSoon}
+use Rattle.pz_tree_refreshing.specs.pz_offer.Summaries.{MayShift}
+use Rattle.pz_tree_refreshing.specs.pz_rules.Settings.{Context}
+use Rattle.pz_tree_refreshing.specs.pz_rules.devices.Passing.{passed}
+use Rattle.pz_tree_refreshing.specs.pz_tree_standing.Asked.{asks}
+use Rattle.pz_tree_refreshing.specs.pz_tree_standing.Steady.{later}
+use Rattle.pz_tree_refreshing.specs.pz_tree_standing.Heads.{Head, inner_clock}
+use Rattle.pz_tree_refreshing.specs.pz_tree_standing.Standing.{terms_of, HeadFits}
+use Rattle.pz_tree_refreshing.specs.pz_tree_standing.Reached.{reaches, behind_inside}
+use Rattle.pz_tree_refreshing.specs.pz_tree_standing.Right.{RightAll}
+use Rattle.pz_tree_refreshing.specs.pz_tree_nodes.declared.kept.Kept.{Kept}
+use Rattle.pz_tree_refreshing.specs.pz_tree_nodes.declared.node.What.{What}
+use Rattle.pz_tree_refreshing.specs.pz_tree_nodes.Keeping.{joined, kept_later}
+use Rattle.pz_tree_refreshing.specs.pz_tree_nodes.View.{Plant, Plants, shapes_of, term_in}
+use Rattle.pz_tree_refreshing.specs.pz_tree_nodes.Tended.{Tended}
+use Rattle.pz_tree_refreshing.specs.pz_tree_nodes.Fresh.{Fresh, AllFlagged}
+use Rattle.pz_tree_refreshing.specs.pz_rules.Short.{IsShort, AreShort}
+use Rattle.pz_tree_refreshing.specs.pz_tree_standing.Soon.{HasRoom, IsSoon}
 use Rattle.pz_tree_refreshing.specs.Refreshing.{Timely, AllTimely, RefreshRule}
 use Rattle.pz_tree_refreshing.specs.devices.Reached.{reached_sum, Says}
 use Rattle.pz_tree_refreshing.specs.devices.Levels.{IsBare, AreBare, KidsTended, IsLeft}

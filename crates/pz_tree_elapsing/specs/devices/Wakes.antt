@@ -1,26 +1,26 @@
 -- What a node becomes in which something wakes, and what it says of itself.
 use Rattle.std.specs.Prelude.{◌≡◌, ◌||◌, ◌+◌, if◌then◌else◌, ◌==◌, ℕ, suc, Bool, true, false, Option, Some, None}
-use Rattle.pz_syntax.specs.declared.tokens.Pos.{Pos}
-use Rattle.pz_syntax.specs.Statements.{delay, send}
-use Rattle.pz_eval_rules.specs.Clocks.{names_clock, part_names_clock, DataIsTimeless}
-use Rattle.pz_offer.specs.Summaries.{nothing, join}
-use Rattle.pz_rules.specs.Settings.{Context}
-use Rattle.pz_rules.specs.Terms.{Step, Term, Terms, no_terms, and}
-use Rattle.pz_rules.specs.devices.Passing.{passed}
-use Rattle.pz_tree_standing.specs.Asked.{statement_asks}
-use Rattle.pz_tree_standing.specs.Steady.{later}
-use Rattle.pz_tree_standing.specs.Summaries.{summary_of}
-use Rattle.pz_tree_standing.specs.Woken.{starts, clocked}
+use Rattle.pz_classes_code.specs.pz_syntax.declared.tokens.Pos.{Pos}
+use Rattle.pz_classes_code.specs.pz_syntax.Statements.{delay, send}
+use Rattle.pz_tree_refreshing.specs.pz_eval_rules.Clocks.{names_clock, part_names_clock, DataIsTimeless}
+use Rattle.pz_tree_refreshing.specs.pz_offer.Summaries.{nothing, join}
+use Rattle.pz_tree_refreshing.specs.pz_rules.Settings.{Context}
+use Rattle.pz_tree_refreshing.specs.pz_rules.Terms.{Step, Term, Terms, no_terms, and}
+use Rattle.pz_tree_refreshing.specs.pz_rules.devices.Passing.{passed}
+use Rattle.pz_tree_refreshing.specs.pz_tree_standing.Asked.{statement_asks}
+use Rattle.pz_tree_refreshing.specs.pz_tree_standing.Steady.{later}
+use Rattle.pz_tree_refreshing.specs.pz_tree_standing.Summaries.{summary_of}
+use Rattle.pz_tree_refreshing.specs.pz_tree_standing.Woken.{starts, clocked}
 use Rattle.pz_clock.specs.Shifts.{is_running}
-use Rattle.pz_tree_standing.specs.Heads as heads
-use Rattle.pz_tree_standing.specs.Heads.{Head, Shapes, inner_clock, inner_frame, formed}
-use Rattle.pz_tree_standing.specs.Standing.{HeadFits}
-use Rattle.pz_tree_standing.specs.Reached.{reaches, GateRight}
-use Rattle.pz_tree_standing.specs.Whole.{IsNoShift, HasParts}
-use Rattle.pz_tree_nodes.specs.declared.kept.Kept.{Kept}
-use Rattle.pz_tree_nodes.specs.Keeping.{HasFlags, kept_none}
-use Rattle.pz_rules.specs.Short.{IsShort, AreShort}
-use Rattle.pz_tree_standing.specs.Soon.{HasRoom, IsSoon}
+use Rattle.pz_tree_refreshing.specs.pz_tree_standing.Heads as heads
+use Rattle.pz_tree_refreshing.specs.pz_tree_standing.Heads.{Head, Shapes, inner_clock, inner_frame, formed}
+use Rattle.pz_tree_refreshing.specs.pz_tree_standing.Standing.{HeadFits}
+use Rattle.pz_tree_refreshing.specs.pz_tree_standing.Reached.{reaches, GateRight}
+use Rattle.pz_tree_refreshing.specs.pz_tree_standing.Whole.{IsNoShift, HasParts}
+use Rattle.pz_tree_refreshing.specs.pz_tree_nodes.declared.kept.Kept.{Kept}
+use Rattle.pz_tree_refreshing.specs.pz_tree_nodes.Keeping.{HasFlags, kept_none}
+use Rattle.pz_tree_refreshing.specs.pz_rules.Short.{IsShort, AreShort}
+use Rattle.pz_tree_refreshing.specs.pz_tree_standing.Soon.{HasRoom, IsSoon}
 use Rattle.pz_tree_refreshing.specs.devices.Reached.{reached_sum}
 use Rattle.pz_tree_elapsing.specs.declared.turning.Turn.{Turn}
 use Rattle.pz_tree_elapsing.specs.declared.turning.Turn.TheVariants.{Same, Shut, Opened}

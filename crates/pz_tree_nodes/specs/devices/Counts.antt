@@ -1,6 +1,6 @@
 -- How much the children of a node have to offer, by what they keep, and which child has the action of a number.
 use Rattle.std.specs.Prelude.{◌≡◌, ◌<◌, ◌≤◌, ◌+◌, ℕ, suc, true, if◌then◌else◌, List, [], ◌∷◌, take, length, Option, Some, None, slice_index_or}
-use Rattle.pz_offer.specs.declared.summary.Summary.{Summary}
+use Rattle.pz_rules.specs.pz_offer.declared.summary.Summary.{Summary}
 use Rattle.pz_nodes_shapes.specs.declared.node.Node.{Node}
 use Rattle.pz_nodes_shapes.specs.Rose.{Map}
 use Rattle.pz_tree_standing.specs.Heads.{Head}

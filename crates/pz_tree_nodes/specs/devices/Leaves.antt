@@ -1,7 +1,7 @@
 -- What is kept of a part that has no others, and of parts where the node over them keeps less.
 use Rattle.std.specs.Prelude.{◌==◌, if◌then◌else◌, ℕ, max, Bool, Some}
-use Rattle.pz_syntax.specs.Statements.{skip, delay, block, conditional, repeated, call, value, send, receive}
-use Rattle.pz_offer.specs.Summaries.{nothing}
+use Rattle.pz_classes_code.specs.pz_syntax.Statements.{skip, delay, block, conditional, repeated, call, value, send, receive}
+use Rattle.pz_rules.specs.pz_offer.Summaries.{nothing}
 use Rattle.pz_rules.specs.Terms.{Step}
 use Rattle.pz_tree_standing.specs.Woken.{condition_names_clock}
 use Rattle.pz_tree_nodes.specs.declared.kept.Kept.{Kept}

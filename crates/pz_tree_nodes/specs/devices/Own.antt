@@ -1,7 +1,7 @@
 -- What a part does by itself, as its node says.
 use Rattle.std.specs.Prelude.{Option, Some, None}
-use Rattle.pz_syntax.specs.declared.tokens.Pos.{Pos}
-use Rattle.pz_syntax.specs.Statements.{skip, delay, block, conditional, repeated, call, value}
+use Rattle.pz_classes_code.specs.pz_syntax.declared.tokens.Pos.{Pos}
+use Rattle.pz_classes_code.specs.pz_syntax.Statements.{skip, delay, block, conditional, repeated, call, value}
 use Rattle.pz_rules.specs.declared.action.Kind.{Kind}
 use Rattle.pz_rules.specs.declared.action.Kind.TheVariants.{Skip, Eval, Test, Expire, Call}
 use Rattle.pz_rules.specs.Terms.{Step}

@@ -1,14 +1,14 @@
 -- Statements that send or receive, as the code takes them apart.
 use Rattle.std.specs.Prelude.{◌≡◌, ℕ, Bool, length, Option, Some, None, is_some}
-use Rattle.pz_syntax.specs.declared.tokens.Pos.{Pos}
-use Rattle.pz_syntax.specs.declared.names.Id.{Id}
-use Rattle.pz_syntax.specs.Expressions.{Part}
-use Rattle.pz_syntax.specs.Statements.{send, receive}
-use Rattle.pz_value.specs.declared.value.ClassId.{ClassId}
+use Rattle.pz_classes_code.specs.pz_syntax.declared.tokens.Pos.{Pos}
+use Rattle.pz_classes_code.specs.pz_syntax.declared.names.Id.{Id}
+use Rattle.pz_classes_code.specs.pz_syntax.Expressions.{Part}
+use Rattle.pz_classes_code.specs.pz_syntax.Statements.{send, receive}
+use Rattle.pz_classes_code.specs.pz_value.declared.value.ClassId.{ClassId}
 use Rattle.pz_classes_code.specs.declared.slot.Slot.{Slot}
 use Rattle.pz_classes_code.specs.CodeView.{part_view}
-use Rattle.pz_rules.specs.Terms.{Step}
-use Rattle.pz_rules.specs.Messages.{variables_of}
+use Rattle.pz_tree_nodes.specs.pz_rules.Terms.{Step}
+use Rattle.pz_tree_nodes.specs.pz_rules.Messages.{variables_of}
 use Rattle.pz_tree_offering.specs.declared.forms.SendForm.{SendForm}
 use Rattle.pz_tree_offering.specs.declared.forms.ReceiveForm.{ReceiveForm}
 

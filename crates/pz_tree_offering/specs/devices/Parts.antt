@@ -1,13 +1,13 @@
 -- What one part sends or receives.
 use Rattle.std.specs.Prelude.{◌≡◌, List, [], ◌∷◌, ◌++◌, Some}
-use Rattle.pz_copy.specs.Packing.{IsParcelOf}
+use Rattle.pz_tree_nodes.specs.pz_copy.Packing.{IsParcelOf}
 use Rattle.pz_nodes_shapes.specs.Rose.{Map}
 use Rattle.pz_nodes_shapes.specs.Seen.{seen}
-use Rattle.pz_rules.specs.Settings.{Context}
-use Rattle.pz_rules.specs.Terms.{Term}
-use Rattle.pz_rules.specs.devices.Walk as walk
-use Rattle.pz_rules.specs.devices.Walk.{sent_by, received_by}
-use Rattle.pz_tree_standing.specs.Woken.{is_clocked}
+use Rattle.pz_tree_nodes.specs.pz_rules.Settings.{Context}
+use Rattle.pz_tree_nodes.specs.pz_rules.Terms.{Term}
+use Rattle.pz_tree_nodes.specs.pz_rules.devices.Walk as walk
+use Rattle.pz_tree_nodes.specs.pz_rules.devices.Walk.{sent_by, received_by}
+use Rattle.pz_tree_nodes.specs.pz_tree_standing.Woken.{is_clocked}
 use Rattle.pz_tree_nodes.specs.declared.node.What.{What}
 use Rattle.pz_tree_nodes.specs.View.{what_view}
 use Rattle.pz_tree_nodes.specs.declared.found.Part.{Part}

@@ -1,24 +1,24 @@
 -- What a node says when it is asked.
 use Rattle.std.specs.Prelude.{◌≡◌, ◌==◌, ◌||◌, ◌+◌, if◌then◌else◌, ℕ, Bool, true, false, Option, Some, None, Result, Ok, Err}
 use Rattle.pz_clock.specs.Shifts.{ShiftView, is_running, local, ShiftFits}
-use Rattle.pz_copy.specs.Parcels.{ParcelView}
-use Rattle.pz_offer.specs.declared.summary.Summary.{Summary}
-use Rattle.pz_offer.specs.declared.trouble.Trouble.{Trouble}
-use Rattle.pz_offer.specs.Summaries.{nothing, join}
-use Rattle.pz_rules.specs.Settings.{Context}
-use Rattle.pz_rules.specs.Terms.{Step, Terms, leaf}
-use Rattle.pz_tree_standing.specs.Asked.{statement_asks}
-use Rattle.pz_tree_standing.specs.Summaries.{summary_of}
-use Rattle.pz_tree_standing.specs.Woken.{statement_begins, statement_names_clock, starts, clocked}
-use Rattle.pz_tree_standing.specs.devices.Tallies.{own_summary}
-use Rattle.pz_tree_standing.specs.Heads as heads
-use Rattle.pz_tree_standing.specs.Heads.{Head, Shapes, inner_clock, inner_frame, formed}
-use Rattle.pz_tree_standing.specs.Standing.{HeadFits}
-use Rattle.pz_tree_standing.specs.Reached.{GateRight}
-use Rattle.pz_tree_standing.specs.Whole.{IsNoShift, HasParts}
+use Rattle.pz_tree_nodes.specs.pz_copy.Parcels.{ParcelView}
+use Rattle.pz_tree_nodes.specs.pz_offer.declared.summary.Summary.{Summary}
+use Rattle.pz_tree_nodes.specs.pz_offer.declared.trouble.Trouble.{Trouble}
+use Rattle.pz_tree_nodes.specs.pz_offer.Summaries.{nothing, join}
+use Rattle.pz_tree_nodes.specs.pz_rules.Settings.{Context}
+use Rattle.pz_tree_nodes.specs.pz_rules.Terms.{Step, Terms, leaf}
+use Rattle.pz_tree_nodes.specs.pz_tree_standing.Asked.{statement_asks}
+use Rattle.pz_tree_nodes.specs.pz_tree_standing.Summaries.{summary_of}
+use Rattle.pz_tree_nodes.specs.pz_tree_standing.Woken.{statement_begins, statement_names_clock, starts, clocked}
+use Rattle.pz_tree_nodes.specs.pz_tree_standing.devices.Tallies.{own_summary}
+use Rattle.pz_tree_nodes.specs.pz_tree_standing.Heads as heads
+use Rattle.pz_tree_nodes.specs.pz_tree_standing.Heads.{Head, Shapes, inner_clock, inner_frame, formed}
+use Rattle.pz_tree_nodes.specs.pz_tree_standing.Standing.{HeadFits}
+use Rattle.pz_tree_nodes.specs.pz_tree_standing.Reached.{GateRight}
+use Rattle.pz_tree_nodes.specs.pz_tree_standing.Whole.{IsNoShift, HasParts}
 use Rattle.pz_tree_nodes.specs.declared.kept.Kept.{Kept}
 use Rattle.pz_tree_nodes.specs.Keeping.{kept_none}
-use Rattle.pz_tree_standing.specs.Soon.{HasRoom, IsSoon}
+use Rattle.pz_tree_nodes.specs.pz_tree_standing.Soon.{HasRoom, IsSoon}
 use Rattle.pz_tree_refreshing.specs.devices.Reached.{reached_sum}
 
 -- something may be asked at it or below it

@@ -4,13 +4,13 @@ use Rattle.pz_nodes_shapes.specs.declared.node.Node.{Node}
 use Rattle.pz_nodes_shapes.specs.Change.{OnlyAt}
 use Rattle.pz_nodes_shapes.specs.Rose.{none, gone, more, Map, root, roots, present, payload, has, has_any, Stands, StandAll}
 use Rattle.pz_nodes_shapes.specs.Reading.{depth, depths}
-use Rattle.pz_offer.specs.Summaries.{MayShift}
-use Rattle.pz_rules.specs.Settings.{Context}
-use Rattle.pz_tree_standing.specs.Heads.{Head, inner_clock}
-use Rattle.pz_tree_standing.specs.Standing.{terms_of, HeadFits}
-use Rattle.pz_tree_standing.specs.Reached.{reaches, behind_inside}
-use Rattle.pz_tree_standing.specs.Right.{RightAll}
-use Rattle.pz_tree_standing.specs.Whole.{IsNoShift}
+use Rattle.pz_tree_nodes.specs.pz_offer.Summaries.{MayShift}
+use Rattle.pz_tree_nodes.specs.pz_rules.Settings.{Context}
+use Rattle.pz_tree_nodes.specs.pz_tree_standing.Heads.{Head, inner_clock}
+use Rattle.pz_tree_nodes.specs.pz_tree_standing.Standing.{terms_of, HeadFits}
+use Rattle.pz_tree_nodes.specs.pz_tree_standing.Reached.{reaches, behind_inside}
+use Rattle.pz_tree_nodes.specs.pz_tree_standing.Right.{RightAll}
+use Rattle.pz_tree_nodes.specs.pz_tree_standing.Whole.{IsNoShift}
 use Rattle.pz_tree_nodes.specs.declared.kept.Kept.{Kept}
 use Rattle.pz_tree_nodes.specs.declared.node.What.{What}
 use Rattle.pz_tree_nodes.specs.Keeping.{kept_none, joined, kept_later}
@@ -18,8 +18,8 @@ use Rattle.pz_tree_nodes.specs.View.{Plant, Plants, head_view, shapes_of, term_i
 use Rattle.pz_tree_nodes.specs.Tended.{Tended}
 use Rattle.pz_tree_nodes.specs.Fresh.{Fresh, AllFlagged}
 use Rattle.pz_tree_refreshing.specs.Live.{live_below, live_among}
-use Rattle.pz_rules.specs.Short.{IsShort}
-use Rattle.pz_tree_standing.specs.Soon.{HasRoom, IsSoon}
+use Rattle.pz_tree_nodes.specs.pz_rules.Short.{IsShort}
+use Rattle.pz_tree_nodes.specs.pz_tree_standing.Soon.{HasRoom, IsSoon}
 use Rattle.pz_tree_refreshing.specs.Refreshing.{Timely, AllTimely}
 use Rattle.pz_tree_refreshing.specs.devices.Reached.{Says}
 

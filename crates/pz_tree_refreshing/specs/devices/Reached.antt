@@ -1,15 +1,15 @@
 -- What the active children of a node add to it, of any sort of sum.
 use Rattle.std.specs.Prelude.{◌≡◌, ◌||◌, ℕ, zero, suc, Bool, true, false}
-use Rattle.pz_offer.specs.Summaries.{nothing, join}
-use Rattle.pz_rules.specs.Settings.{Context}
-use Rattle.pz_rules.specs.Terms.{Term, Terms, no_terms, and}
-use Rattle.pz_tree_standing.specs.Summaries.{summary_of}
-use Rattle.pz_tree_standing.specs.Woken.{starts, clocked}
-use Rattle.pz_tree_standing.specs.Heads as heads
-use Rattle.pz_tree_standing.specs.Heads.{Head}
-use Rattle.pz_tree_standing.specs.Reached.{reaches}
+use Rattle.pz_tree_nodes.specs.pz_offer.Summaries.{nothing, join}
+use Rattle.pz_tree_nodes.specs.pz_rules.Settings.{Context}
+use Rattle.pz_tree_nodes.specs.pz_rules.Terms.{Term, Terms, no_terms, and}
+use Rattle.pz_tree_nodes.specs.pz_tree_standing.Summaries.{summary_of}
+use Rattle.pz_tree_nodes.specs.pz_tree_standing.Woken.{starts, clocked}
+use Rattle.pz_tree_nodes.specs.pz_tree_standing.Heads as heads
+use Rattle.pz_tree_nodes.specs.pz_tree_standing.Heads.{Head}
+use Rattle.pz_tree_nodes.specs.pz_tree_standing.Reached.{reaches}
 use Rattle.pz_tree_nodes.specs.declared.kept.Kept.{Kept}
-use Rattle.pz_tree_standing.specs.Soon.{IsSoon}
+use Rattle.pz_tree_nodes.specs.pz_tree_standing.Soon.{IsSoon}
 
 abbrev pub added : {V : Type 0} → (V → V → V) → Bool → V → V → V
 added plus true v w = plus v w

@@ -1,9 +1,9 @@
 -- What a node that is put back keeps, from what its children keep.
 use Rattle.std.specs.Prelude.{◌+◌, ◌-◌, ◌^◌, ℕ, zero, suc, min, List, [], ◌∷◌, Option, Some, None, option_map}
-use Rattle.pz_offer.specs.declared.summary.Summary.{Summary}
+use Rattle.pz_rules.specs.pz_offer.declared.summary.Summary.{Summary}
 use Rattle.pz_nodes_shapes.specs.declared.node.Node.{Node}
 use Rattle.pz_nodes_shapes.specs.Rose.{node, none, gone, more, Map}
-use Rattle.pz_tree_standing.specs.Heads as heads
+use Rattle.pz_tree_nodes.specs.pz_tree_standing.Heads as heads
 use Rattle.pz_tree_nodes.specs.declared.kept.Kept.{Kept}
 use Rattle.pz_tree_nodes.specs.declared.node.What.{What}
 use Rattle.pz_tree_nodes.specs.Keeping.{kept_none, kept_done, kept_asked, joined, raised}

@@ -4,18 +4,18 @@ use Rattle.pz_clock.specs.Shifts.{ShiftView, ShiftFits, behind_since}
 use Rattle.pz_nodes_shapes.specs.declared.node.Node.{Node}
 use Rattle.pz_nodes_shapes.specs.Rose.{none, gone, more, Map, root, roots, pick, joined, with_kid, width, sizes, Stands}
 use Rattle.pz_nodes_shapes.specs.Change.{OnlyAt, Holds, BecomesOption}
-use Rattle.pz_state.specs.Marks.{Seen}
-use Rattle.pz_part_opening.specs.Bare.{is_bare}
+use Rattle.pz_rules.specs.pz_state.Marks.{Seen}
+use Rattle.pz_term_around.specs.pz_part_opening.Bare.{is_bare}
 use Rattle.pz_rules.specs.Terms.{Step, Term, done, Terms, frames_in_all, term_at}
 use Rattle.pz_rules.specs.Settings.{Home}
 use Rattle.pz_rules.specs.Leaving.{replaced, around}
 use Rattle.pz_rules.specs.Places.{MayActIn}
 use Rattle.pz_rules.specs.Becoming.{Became}
-use Rattle.pz_tree_standing.specs.FrameCounts.{lost, gained}
-use Rattle.pz_tree_standing.specs.Heads as heads
-use Rattle.pz_tree_standing.specs.Heads.{inner_clock, inner_frame, formed}
-use Rattle.pz_tree_standing.specs.Standing.{terms_of, HeadFits}
-use Rattle.pz_tree_standing.specs.Whole.{IsNoShift, HasParts, Whole, AreWhole}
+use Rattle.pz_tree_nodes.specs.pz_tree_standing.FrameCounts.{lost, gained}
+use Rattle.pz_tree_nodes.specs.pz_tree_standing.Heads as heads
+use Rattle.pz_tree_nodes.specs.pz_tree_standing.Heads.{inner_clock, inner_frame, formed}
+use Rattle.pz_tree_nodes.specs.pz_tree_standing.Standing.{terms_of, HeadFits}
+use Rattle.pz_tree_nodes.specs.pz_tree_standing.Whole.{IsNoShift, HasParts, Whole, AreWhole}
 use Rattle.pz_tree_nodes.specs.declared.kept.Kept.{Kept}
 use Rattle.pz_tree_nodes.specs.declared.node.Head.{Head}
 use Rattle.pz_tree_nodes.specs.declared.node.Head.TheVariants as kind
@@ -25,7 +25,7 @@ use Rattle.pz_tree_nodes.specs.Tended.{Tended, TendedOption}
 use Rattle.pz_tree_nodes.specs.Planting.{root_of}
 use Rattle.pz_tree_regrowing.specs.Costs.{beside, made, dropped}
 use Rattle.pz_rules.specs.Short.{IsShort}
-use Rattle.pz_tree_standing.specs.Soon.{HasRoom}
+use Rattle.pz_tree_nodes.specs.pz_tree_standing.Soon.{HasRoom}
 use Rattle.pz_tree_regrowing.specs.Regrowing.{Work, InTime, at_work}
 use Rattle.pz_tree_regrowing.specs.devices.Keeping.{kept_in, kept_behind}
 

@@ -2,14 +2,14 @@
 use Rattle.std.specs.Prelude.{◌≡◌, ◌≤◌, ◌+◌, ◌*◌, ℕ, List, Option}
 use Rattle.pz_clock.specs.Shifts.{ShiftView}
 use Rattle.pz_nodes_shapes.specs.Rose.{Map, roots, StandAll}
-use Rattle.pz_offer.specs.PlaceOrder.{Place}
+use Rattle.pz_rules.specs.pz_offer.PlaceOrder.{Place}
 use Rattle.pz_rules.specs.Terms.{Step}
 use Rattle.pz_rules.specs.Settings.{Home}
 use Rattle.pz_rules.specs.Places.{MayActIn, MayAct}
-use Rattle.pz_term_residual.specs.declared.outline.Outline.{Outline}
-use Rattle.pz_term_residual.specs.Outlines.{IsRound, IsLeft}
-use Rattle.pz_tree_standing.specs.Heads.{Head, idle, handling, formed}
-use Rattle.pz_tree_standing.specs.Whole.{IsNoShift, HasParts, AreWhole}
+use Rattle.pz_term_outlines.specs.declared.outline.Outline.{Outline}
+use Rattle.pz_term_outlines.specs.Outlines.{IsRound, IsLeft}
+use Rattle.pz_tree_nodes.specs.pz_tree_standing.Heads.{Head, idle, handling, formed}
+use Rattle.pz_tree_nodes.specs.pz_tree_standing.Whole.{IsNoShift, HasParts, AreWhole}
 use Rattle.pz_tree_nodes.specs.declared.node.What.{What}
 use Rattle.pz_tree_nodes.specs.View.{Plant, Plants, shapes_of, term_in_option}
 use Rattle.pz_tree_nodes.specs.Tended.{AreMarked}

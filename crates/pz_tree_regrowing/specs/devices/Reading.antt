@@ -2,9 +2,9 @@
 use Rattle.std.specs.Prelude.{◌≡◌, ℕ, max, slice_index_or, List, [], ◌∷◌, Option, Some, None}
 use Rattle.pz_nodes_shapes.specs.declared.node.Node.{Node}
 use Rattle.pz_nodes_shapes.specs.Rose.{Map}
-use Rattle.pz_tree_standing.specs.Heads.{Head, shifted}
-use Rattle.pz_tree_standing.specs.Whole.{Whole}
-use Rattle.pz_term_residual.specs.Capped.{capped}
+use Rattle.pz_tree_nodes.specs.pz_tree_standing.Heads.{Head, shifted}
+use Rattle.pz_tree_nodes.specs.pz_tree_standing.Whole.{Whole}
+use Rattle.pz_term_outlines.specs.Capped.{capped}
 use Rattle.pz_tree_nodes.specs.declared.node.What.{What}
 use Rattle.pz_tree_nodes.specs.View.{Plant, shape_of, term_in_option}
 use Rattle.pz_tree_nodes.specs.Tended.{Marked}

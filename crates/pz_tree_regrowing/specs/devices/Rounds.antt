@@ -2,11 +2,11 @@
 use Rattle.std.specs.Prelude.{◌≡◌, ◌≤◌, ◌+◌, ◌*◌, ℕ, Option, Some, None}
 use Rattle.pz_nodes_shapes.specs.Rose.{node, Map, has_option}
 use Rattle.pz_nodes_shapes.specs.Change.{Change, no_key, BecomesOption}
-use Rattle.pz_offer.specs.PlaceOrder.{Place}
+use Rattle.pz_rules.specs.pz_offer.PlaceOrder.{Place}
 use Rattle.pz_rules.specs.Terms.{Term}
 use Rattle.pz_rules.specs.Settings.{Home}
 use Rattle.pz_rules.specs.Places.{MayAct}
-use Rattle.pz_tree_standing.specs.Whole.{IsNoShift}
+use Rattle.pz_tree_nodes.specs.pz_tree_standing.Whole.{IsNoShift}
 use Rattle.pz_tree_nodes.specs.declared.node.What.{What}
 use Rattle.pz_tree_nodes.specs.View.{Plant, head_view, term_in_option}
 use Rattle.pz_tree_nodes.specs.Tended.{TendedOption}

@@ -1,6 +1,6 @@
 -- Laws of what is computed.
 use Rattle.std.specs.Prelude.{◌≡◌, ◌+◌, ℕ, true, Option, None}
-use Rattle.pz_eval_rules.specs.Clocks.{DataIsTimeless}
+use Rattle.pz_rules.specs.pz_eval_rules.Clocks.{DataIsTimeless}
 use Rattle.pz_nodes_shapes.specs.Rose.{node, none, more, with_kid}
 use Rattle.pz_rules.specs.Leaving.{replaced}
 use Rattle.pz_rules.specs.Settings.{Context}

@@ -1,7 +1,7 @@
 -- Laws of what is computed.
 use Rattle.std.specs.Prelude.{◌≡◌, ◌+◌, ℕ, false}
-use Rattle.pz_syntax.specs.declared.tokens.Pos.{Pos}
-use Rattle.pz_eval_rules.specs.Clocks.{names_clock, DataIsTimeless}
+use Rattle.pz_rules.specs.pz_syntax.declared.tokens.Pos.{Pos}
+use Rattle.pz_rules.specs.pz_eval_rules.Clocks.{names_clock, DataIsTimeless}
 use Rattle.pz_rules.specs.Terms.{Code, Term}
 use Rattle.pz_rules.specs.Settings.{Context}
 use Rattle.pz_rules.specs.devices.Found.{tested}

@@ -1,8 +1,8 @@
 -- What a node is to keep, from what its children keep.
 use Rattle.std.specs.Prelude.{ℕ, zero, suc, ◌-◌}
-use Rattle.pz_offer.specs.declared.summary.Summary.{Summary}
-use Rattle.pz_offer.specs.Summaries.{nothing, join}
-use Rattle.pz_offer.specs.Summaries as summaries
+use Rattle.pz_rules.specs.pz_offer.declared.summary.Summary.{Summary}
+use Rattle.pz_rules.specs.pz_offer.Summaries.{nothing, join}
+use Rattle.pz_rules.specs.pz_offer.Summaries as summaries
 use Rattle.pz_nodes_shapes.specs.Rose.{node, none, gone, more}
 use Rattle.pz_rules.specs.Terms as term
 use Rattle.pz_rules.specs.Settings.{Context}

@@ -1,7 +1,7 @@
 -- What a subject knows of its state, so that it names only what is there.
 use Rattle.std.specs.Prelude.{◌≡◌, ℕ, List, [], ◌∷◌, length, reverse, Option, Some}
 use Rattle.std.specs.Option.{option_map}
-use Rattle.pz_state.specs.States.{StateView, locals_in}
+use Rattle.pz_copy.specs.pz_state.States.{StateView, locals_in}
 use Rattle.rows_state.specs.declared.subject.Frame.{Frame}
 use Rattle.rows_state.specs.declared.subject.Saved.{Saved}
 use Rattle.rows_state.specs.declared.subject.Subject.TheInside.{Inside}

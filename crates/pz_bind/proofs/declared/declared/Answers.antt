@@ -1,9 +1,9 @@
 use Rattle.std.proofs.Common.{◌≡◌, ap, ◌∙◌, ◌-◌, Option, slice_get}
 use Rattle.std.specs.Option.{option_map, option_copied}
-use Rattle.pz_syntax.specs.declared.clusters.Decl.{Decl}
-use Rattle.pz_syntax.specs.Classes.{ModelTree}
-use Rattle.pz_syntax.specs.ClassView.{decl_view}
-use Rattle.pz_classes.specs.Numbers.{declaration}
+use Rattle.pz_bind_rules.specs.pz_syntax.declared.clusters.Decl.{Decl}
+use Rattle.pz_bind_rules.specs.pz_syntax.Classes.{ModelTree}
+use Rattle.pz_bind_rules.specs.pz_syntax.ClassView.{decl_view}
+use Rattle.pz_bind_rules.specs.pz_classes_rules.Numbers.{declaration}
 use Rattle.pz_bind.proofs.Gets.{got, declared_at}
 use Rattle.pz_bind.proofs.declared.declared.Goals as goal
 

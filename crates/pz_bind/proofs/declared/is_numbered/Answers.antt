@@ -1,7 +1,7 @@
 use Rattle.std.proofs.Common.{subst}
-use Rattle.pz_syntax.specs.ModelText.{HasFewMarks}
+use Rattle.pz_bind_rules.specs.pz_syntax.ModelText.{HasFewMarks}
 use Rattle.pz_classes.specs.CheckedView.{checked_model}
-use Rattle.pz_classes.specs.Soundness.{IsSound}
+use Rattle.pz_bind_rules.specs.pz_classes_rules.Soundness.{IsSound}
 use Rattle.pz_bind.proofs.declared.is_numbered.Goals as goal
 
 pub returns : goal.returns

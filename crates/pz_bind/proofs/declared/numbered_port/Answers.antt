@@ -1,7 +1,7 @@
 use Rattle.std.proofs.Common.{◌≡◌, ◌∙◌, sym, ap, ℕ, ◌+◌, ◌<◌, List, length, arith}
-use Rattle.pz_classes_code.specs.Places.{place_in}
+use Rattle.pz_bind_rules.specs.pz_classes_code.Places.{place_in}
 use Rattle.pz_classes.specs.CheckedView.{checked_model}
-use Rattle.pz_classes.specs.Members.{own_ports, spelled}
+use Rattle.pz_bind_rules.specs.pz_classes_rules.Members.{own_ports, spelled}
 use Rattle.pz_bind.proofs.Gets.{number_merely, none_declared, none_inherited}
 use Rattle.pz_bind.proofs.declared.numbered_port.Goals as goal
 

@@ -1,6 +1,6 @@
 use Rattle.std.proofs.Common.{◌≡◌, suc, map, drop}
-use Rattle.pz_syntax.specs.ClassView.{decl_view}
-use Rattle.pz_bind.specs.Nest.{first_system}
+use Rattle.pz_bind_rules.specs.pz_syntax.ClassView.{decl_view}
+use Rattle.pz_bind_rules.specs.Nest.{first_system}
 use Rattle.pz_bind.proofs.declared.system_class.Given as goal
 
 abbrev pub invariant-loop-index : goal.invariant-loop-index

@@ -1,6 +1,6 @@
 use Rattle.std.proofs.Common.{◌≡◌, sym, ap, ◌+◌, ◌<◌, length, arith}
 use Rattle.pz_classes.specs.CheckedView.{checked_model}
-use Rattle.pz_classes.specs.Members.{own_variables, spelled}
+use Rattle.pz_bind_rules.specs.pz_classes_rules.Members.{own_variables, spelled}
 use Rattle.pz_bind.proofs.Gets.{names_merely, none_declared, none_inherited}
 use Rattle.pz_bind.proofs.declared.variables_of.Goals as goal
 

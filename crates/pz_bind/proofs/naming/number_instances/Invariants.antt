@@ -1,8 +1,8 @@
 use Rattle.std.proofs.Common.{◌≡◌, ℕ, List, map, drop}
 use Rattle.std.specs.Option.{option_or}
-use Rattle.pz_classes_code.specs.NumberIn.{number_in}
-use Rattle.pz_classes_code.specs.Places.{place_from}
-use Rattle.pz_bind.specs.devices.Layouts.{instance_number}
+use Rattle.pz_bind_rules.specs.pz_classes_code.NumberIn.{number_in}
+use Rattle.pz_bind_rules.specs.pz_classes_code.Places.{place_from}
+use Rattle.pz_bind_rules.specs.devices.Layouts.{instance_number}
 use Rattle.pz_bind.proofs.naming.number_instances.Given as goal
 
 abbrev pub invariant-loop-instance : goal.invariant-loop-instance

@@ -1,7 +1,7 @@
 use Rattle.std.proofs.Common.{get_or, arith}
 use Rattle.pz_classes.specs.CheckedView.{checked_model}
 use Rattle.pz_bind_levels.specs.declared.expansion.Process.{Process}
-use Rattle.pz_bind.specs.Nest.{processes}
+use Rattle.pz_bind_rules.specs.Nest.{processes}
 use Rattle.pz_bind.specs.devices.Nets.{node_at}
 use Rattle.pz_bind.proofs.SiteSteps.{process_place, process_placed, mapped_step}
 use Rattle.pz_bind.proofs.nodes.nodes_of.Goals as goal

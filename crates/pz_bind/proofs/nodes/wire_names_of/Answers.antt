@@ -1,8 +1,8 @@
 use Rattle.std.proofs.Common.{get_or, arith}
 use Rattle.pz_classes.specs.CheckedView.{checked_model}
 use Rattle.pz_bind_levels.specs.declared.expansion.Wire.{Wire}
-use Rattle.pz_bind.specs.Names as spec_names
-use Rattle.pz_bind.specs.Wires.{wires}
+use Rattle.pz_bind_rules.specs.Names as spec_names
+use Rattle.pz_bind_rules.specs.Wires.{wires}
 use Rattle.pz_bind.proofs.SiteSteps.{wire_place, wire_within, wire_named, mapped_step}
 use Rattle.pz_bind.proofs.nodes.wire_names_of.Goals as goal
 

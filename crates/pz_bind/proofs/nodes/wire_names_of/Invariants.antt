@@ -1,7 +1,7 @@
 use Rattle.std.proofs.Common.{◌≡◌, map, take}
 use Rattle.pz_classes.specs.CheckedView.{checked_model}
-use Rattle.pz_bind.specs.Names.{wire_name}
-use Rattle.pz_bind.specs.Wires.{wires}
+use Rattle.pz_bind_rules.specs.Names.{wire_name}
+use Rattle.pz_bind_rules.specs.Wires.{wires}
 use Rattle.pz_bind.proofs.nodes.wire_names_of.Given as goal
 
 abbrev pub invariant-loop-wire : goal.invariant-loop-wire

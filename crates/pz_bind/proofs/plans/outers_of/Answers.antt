@@ -1,9 +1,9 @@
 use Rattle.std.proofs.Common.{◌∙◌, ap, map, List, arith}
 use Rattle.std.proofs.lemmas.List.{take_all}
-use Rattle.pz_syntax.specs.declared.clusters.Channel.{Channel}
-use Rattle.pz_syntax.specs.declared.clusters.ChannelEnd.{ChannelEnd}
+use Rattle.pz_bind_rules.specs.pz_syntax.declared.clusters.Channel.{Channel}
+use Rattle.pz_bind_rules.specs.pz_syntax.declared.clusters.ChannelEnd.{ChannelEnd}
 use Rattle.pz_classes.specs.CheckedView.{checked_model}
-use Rattle.pz_bind.specs.devices.Layouts.{outer_from}
+use Rattle.pz_bind_rules.specs.devices.Layouts.{outer_from}
 use Rattle.pz_bind.proofs.PlanSteps.{map_step}
 use Rattle.pz_bind.proofs.plans.outers_of.Goals as goal
 

@@ -1,9 +1,9 @@
 use Rattle.std.proofs.Common.{◌≡◌, ◌∙◌, ap, map, List, ℕ}
-use Rattle.pz_syntax.specs.declared.clusters.Instance.{Instance}
-use Rattle.pz_syntax.specs.declared.clusters.Channel.{Channel}
+use Rattle.pz_bind_rules.specs.pz_syntax.declared.clusters.Instance.{Instance}
+use Rattle.pz_bind_rules.specs.pz_syntax.declared.clusters.Channel.{Channel}
 use Rattle.pz_classes.specs.CheckedView.{checked_model}
-use Rattle.pz_bind.specs.Nest.{instances_in, channels_in}
-use Rattle.pz_bind.specs.devices.Layouts.{part_of, outer_from, linked_by, links_from}
+use Rattle.pz_bind_rules.specs.Nest.{instances_in, channels_in}
+use Rattle.pz_bind_rules.specs.devices.Layouts.{part_of, outer_from, linked_by, links_from}
 use Rattle.pz_bind.proofs.PlanSteps.{same_layout, instances_fit}
 use Rattle.pz_bind.proofs.plans.plan_of.Goals as goal
 

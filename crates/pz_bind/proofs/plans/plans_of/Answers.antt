@@ -3,7 +3,7 @@ use Rattle.std.proofs.lemmas.List.{map-append}
 use Rattle.pz_classes.specs.CheckedView.{checked_model}
 use Rattle.pz_bind_levels.specs.Layouts.{Layout}
 use Rattle.pz_bind_levels.specs.devices.Walking.{layout_of, layouts_of}
-use Rattle.pz_bind.specs.devices.Layouts.{class_layout, layouts}
+use Rattle.pz_bind_rules.specs.devices.Layouts.{class_layout, layouts}
 use Rattle.pz_bind.proofs.PlanSteps.{plans_step, plans_done}
 use Rattle.pz_bind.proofs.plans.plans_of.Goals as goal
 

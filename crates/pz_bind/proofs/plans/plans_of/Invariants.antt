@@ -1,8 +1,8 @@
 use Rattle.std.proofs.Common.{◌≡◌, suc, ◌++◌, map, drop}
-use Rattle.pz_syntax.specs.ClassView.{decl_view}
+use Rattle.pz_bind_rules.specs.pz_syntax.ClassView.{decl_view}
 use Rattle.pz_classes.specs.CheckedView.{checked_model}
 use Rattle.pz_bind_levels.specs.devices.Walking.{layouts_of}
-use Rattle.pz_bind.specs.devices.Layouts.{layouts_from, layouts}
+use Rattle.pz_bind_rules.specs.devices.Layouts.{layouts_from, layouts}
 use Rattle.pz_bind.proofs.plans.plans_of.Given as goal
 
 abbrev pub invariant-loop-decl : goal.invariant-loop-decl

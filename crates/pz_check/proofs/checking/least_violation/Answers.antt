@@ -1,4 +1,4 @@
-use Rattle.pz_syntax.specs.ClassView.{model_view}
+use Rattle.pz_classes.specs.pz_syntax.ClassView.{model_view}
 use Rattle.pz_check.proofs.Joining.{all_joined}
 use Rattle.pz_check.proofs.checking.least_violation.Goals as goal
 

@@ -1,4 +1,4 @@
-use Rattle.pz_syntax.specs.ClassView.{model_view}
+use Rattle.pz_classes.specs.pz_syntax.ClassView.{model_view}
 use Rattle.pz_check.proofs.Joining.{size_joined}
 use Rattle.pz_check.proofs.size.least_of_size.Goals as goal
 

@@ -1,5 +1,5 @@
 use Rattle.std.proofs.Common.{sym}
-use Rattle.pz_syntax.specs.ClassView.{model_view}
+use Rattle.pz_classes.specs.pz_syntax.ClassView.{model_view}
 use Rattle.pz_check.proofs.Joining.{by_holding_found, by_system_found, by_word_found}
 use Rattle.pz_check.proofs.size.least_oversize.Goals as goal
 

@@ -1,5 +1,5 @@
 use Rattle.std.proofs.Common.{◌∙◌, sym, ap, refl, Option, if◌then◌else◌}
-use Rattle.pz_syntax.specs.declared.tokens.Pos.{Pos}
+use Rattle.pz_classes.specs.pz_syntax.declared.tokens.Pos.{Pos}
 use Rattle.pz_check_duplicates.specs.devices.Earlier.{earlier}
 use Rattle.pz_check_duplicates.specs.devices.Again.{same_key, thing_place}
 use Rattle.pz_check_duplicates.proofs.Steps.{found_step, earliest_step}

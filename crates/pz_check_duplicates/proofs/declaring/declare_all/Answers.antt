@@ -1,5 +1,5 @@
 use Rattle.std.proofs.Common.{sym, subst, List, ◌∷◌}
-use Rattle.pz_syntax.specs.declared.names.Id.{Id}
+use Rattle.pz_classes.specs.pz_syntax.declared.names.Id.{Id}
 use Rattle.pz_check_duplicates.specs.devices.Knowing.{spread, Knows}
 use Rattle.pz_check_duplicates.proofs.NameSteps.{so_far, one_longer, found_further}
 use Rattle.pz_check_duplicates.proofs.declaring.declare_all.Goals as goal

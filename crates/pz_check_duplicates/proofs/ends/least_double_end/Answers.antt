@@ -1,9 +1,9 @@
 use Rattle.std.proofs.Common.{◌≡◌, ◌∙◌, sym, ap, subst, arith, None}
 use Rattle.std.specs.List.{flat_map}
 use Rattle.std.proofs.lemmas.Grind.{common_steps}
-use Rattle.pz_syntax.specs.ClassView.{decl_view, model_view}
+use Rattle.pz_classes.specs.pz_syntax.ClassView.{decl_view, model_view}
 use Rattle.pz_check_violations.specs.Least.{LeastOf, least_from}
-use Rattle.pz_classes.specs.ChannelRules.{BreaksC17}
+use Rattle.pz_classes.specs.pz_classes_rules.ChannelRules.{BreaksC17}
 use Rattle.pz_check_duplicates.specs.devices.EndList.{of_decl, double_ends}
 use Rattle.pz_check_duplicates.proofs.Steps.{flat_step, flat_view}
 use Rattle.pz_check_duplicates.proofs.EndsFound.{least_found}

@@ -1,6 +1,6 @@
 use Rattle.std.proofs.Common.{◌≡◌, None, drop}
 use Rattle.std.specs.List.{flat_map}
-use Rattle.pz_syntax.specs.ClassView.{decl_view}
+use Rattle.pz_classes.specs.pz_syntax.ClassView.{decl_view}
 use Rattle.pz_check_violations.specs.Least.{least_from}
 use Rattle.pz_check_duplicates.specs.devices.EndList.{of_decl}
 use Rattle.pz_check_duplicates.proofs.ends.least_double_end.Given as goal

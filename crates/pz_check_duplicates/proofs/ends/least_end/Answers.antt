@@ -2,7 +2,7 @@ use Rattle.std.proofs.Common.{◌≡◌, refl, subst, List, map, arith}
 use Rattle.std.specs.List.{flat_map}
 use Rattle.std.specs.Result.{IfOk}
 use Rattle.std.proofs.lemmas.Grind.{common_steps}
-use Rattle.pz_syntax.specs.declared.clusters.Channel.{Channel}
+use Rattle.pz_classes.specs.pz_syntax.declared.clusters.Channel.{Channel}
 use Rattle.pz_check_violations.specs.declared.violation.Violation.{Violation}
 use Rattle.pz_check_violations.specs.Least.{least_from}
 use Rattle.pz_check_duplicates.specs.devices.Tips.{tip, tip_of}

@@ -1,6 +1,6 @@
 use Rattle.std.proofs.Common.{◌≡◌, map, take}
 use Rattle.std.specs.List.{flat_map}
-use Rattle.pz_syntax.specs.declared.clusters.Channel.{Channel}
+use Rattle.pz_classes.specs.pz_syntax.declared.clusters.Channel.{Channel}
 use Rattle.pz_check_duplicates.specs.devices.Tips.{tip, tip_of}
 use Rattle.pz_check_duplicates.proofs.ends.least_end.Given as goal
 

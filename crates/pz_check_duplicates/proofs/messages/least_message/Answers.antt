@@ -1,9 +1,9 @@
 use Rattle.std.proofs.Common.{◌≡◌, subst, List, map, rules}
 use Rattle.std.specs.Result.{IfOk}
-use Rattle.pz_syntax.specs.ClassView.{decl_view}
+use Rattle.pz_classes.specs.pz_syntax.ClassView.{decl_view}
 use Rattle.pz_check_violations.specs.declared.violation.Violation.{Violation}
 use Rattle.pz_check_violations.specs.Least.{least_from}
-use Rattle.pz_classes.specs.CallRules.{own_messages}
+use Rattle.pz_classes.specs.pz_classes_rules.CallRules.{own_messages}
 use Rattle.pz_check_duplicates.specs.devices.Signals.{signal, signal_of}
 use Rattle.pz_check_duplicates.proofs.MessageKeys.{messages_repeat}
 use Rattle.pz_check_duplicates.proofs.messages.least_message.Goals as goal

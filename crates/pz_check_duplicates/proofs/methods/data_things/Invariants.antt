@@ -1,6 +1,6 @@
 use Rattle.std.proofs.Common.{◌≡◌, map, take}
-use Rattle.pz_syntax.specs.ClassView.{data_method_view}
-use Rattle.pz_classes.specs.RepeatRules.{data_heading}
+use Rattle.pz_classes.specs.pz_syntax.ClassView.{data_method_view}
+use Rattle.pz_classes.specs.pz_classes_rules.RepeatRules.{data_heading}
 use Rattle.pz_check_duplicates.specs.devices.Headings.{heading_of}
 use Rattle.pz_check_duplicates.proofs.methods.data_things.Given as goal
 

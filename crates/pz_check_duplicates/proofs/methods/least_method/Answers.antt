@@ -1,9 +1,9 @@
 use Rattle.std.proofs.Common.{◌≡◌, refl, subst, List, map, rules}
 use Rattle.std.specs.Result.{IfOk}
-use Rattle.pz_syntax.specs.ClassView.{decl_view}
+use Rattle.pz_classes.specs.pz_syntax.ClassView.{decl_view}
 use Rattle.pz_check_violations.specs.declared.violation.Violation.{Violation}
 use Rattle.pz_check_violations.specs.Least.{least_from}
-use Rattle.pz_classes.specs.RepeatRules.{headings}
+use Rattle.pz_classes.specs.pz_classes_rules.RepeatRules.{headings}
 use Rattle.pz_check_duplicates.specs.devices.Headings.{heading_of}
 use Rattle.pz_check_duplicates.proofs.MethodKeys.{methods_repeat}
 use Rattle.pz_check_duplicates.proofs.methods.least_method.Goals as goal

@@ -1,4 +1,4 @@
-use Rattle.pz_classes.proofs.FewMarks.{data_methods_fit, process_methods_fit, data_inputs_fit, process_inputs_fit, process_outputs_fit}
+use Rattle.pz_classes.proofs.pz_classes_rules_proofs.FewMarks.{data_methods_fit, process_methods_fit, data_inputs_fit, process_inputs_fit, process_outputs_fit}
 use Rattle.pz_check_duplicates.proofs.methods.method_things.Goals as goal
 
 pub data_things-requires : goal.data_things-requires

@@ -1,5 +1,5 @@
 use Rattle.std.proofs.Common.{◌≡◌, map, take}
-use Rattle.pz_syntax.specs.declared.clusters.Instance.{Instance}
+use Rattle.pz_classes.specs.pz_syntax.declared.clusters.Instance.{Instance}
 use Rattle.pz_check_duplicates.specs.devices.Names.{id_of}
 use Rattle.pz_check_duplicates.proofs.names.least_instance.Given as goal
 

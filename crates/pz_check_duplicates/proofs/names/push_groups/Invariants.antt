@@ -1,5 +1,5 @@
 use Rattle.std.proofs.Common.{◌≡◌, ◌++◌, map, take}
-use Rattle.pz_classes.specs.Members.{grouped}
+use Rattle.pz_classes.specs.pz_classes_rules.Members.{grouped}
 use Rattle.pz_check_duplicates.specs.devices.Names.{id_of}
 use Rattle.pz_check_duplicates.proofs.names.push_groups.Given as goal
 

@@ -1,5 +1,5 @@
 use Rattle.std.proofs.Common.{◌∙◌, ap, List, arith}
-use Rattle.pz_syntax.specs.declared.names.Id.{Id}
+use Rattle.pz_classes.specs.pz_syntax.declared.names.Id.{Id}
 use Rattle.pz_check_violations.specs.Least.{least_from}
 use Rattle.pz_check_duplicates.specs.devices.RepeatList.{of_names, of_part}
 use Rattle.pz_check_duplicates.proofs.Steps.{flat_step}

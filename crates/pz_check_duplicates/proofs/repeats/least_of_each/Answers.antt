@@ -1,6 +1,6 @@
 use Rattle.std.proofs.Common.{arith}
-use Rattle.pz_syntax.specs.ClassView.{decl_view}
-use Rattle.pz_classes.proofs.FewMarks.{item_fits}
+use Rattle.pz_classes.specs.pz_syntax.ClassView.{decl_view}
+use Rattle.pz_classes.proofs.pz_classes_rules_proofs.FewMarks.{item_fits}
 use Rattle.pz_check_duplicates.specs.devices.RepeatList.{of_own}
 use Rattle.pz_check_duplicates.proofs.Steps.{flat_step}
 use Rattle.pz_check_duplicates.proofs.repeats.least_of_each.Goals as goal

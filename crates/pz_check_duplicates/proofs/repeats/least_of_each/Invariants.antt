@@ -1,6 +1,6 @@
 use Rattle.std.proofs.Common.{◌≡◌, drop}
 use Rattle.std.specs.List.{flat_map}
-use Rattle.pz_syntax.specs.ClassView.{decl_view}
+use Rattle.pz_classes.specs.pz_syntax.ClassView.{decl_view}
 use Rattle.pz_check_violations.specs.Least.{least_from}
 use Rattle.pz_check_duplicates.specs.devices.RepeatList.{of_own}
 use Rattle.pz_check_duplicates.proofs.repeats.least_of_each.Given as goal

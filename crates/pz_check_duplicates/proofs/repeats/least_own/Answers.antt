@@ -1,14 +1,14 @@
 use Rattle.std.proofs.Common.{◌≡◌, ◌∙◌, ap, subst, List, map, Option}
 use Rattle.std.specs.Result.{IfOk}
-use Rattle.pz_syntax.specs.declared.clusters.Instance.{Instance}
-use Rattle.pz_syntax.specs.Classes.{DeclTree}
-use Rattle.pz_syntax.specs.ClassView.{decl_view}
+use Rattle.pz_classes.specs.pz_syntax.declared.clusters.Instance.{Instance}
+use Rattle.pz_classes.specs.pz_syntax.Classes.{DeclTree}
+use Rattle.pz_classes.specs.pz_syntax.ClassView.{decl_view}
 use Rattle.pz_classes_mentions.specs.Declarations.{parts}
 use Rattle.pz_check_violations.specs.declared.violation.Violation.{Violation}
 use Rattle.pz_check_violations.specs.Least.{least_from}
-use Rattle.pz_classes.specs.CallRules.{own_messages}
-use Rattle.pz_classes.specs.Instances.{instances}
-use Rattle.pz_classes.specs.RepeatRules.{headings, same_heading, same_message}
+use Rattle.pz_classes.specs.pz_classes_rules.CallRules.{own_messages}
+use Rattle.pz_classes.specs.pz_classes_rules.Instances.{instances}
+use Rattle.pz_classes.specs.pz_classes_rules.RepeatRules.{headings, same_heading, same_message}
 use Rattle.pz_check_duplicates.specs.devices.Again.{repeats}
 use Rattle.pz_check_duplicates.specs.devices.Headings.{heading_place}
 use Rattle.pz_check_duplicates.specs.devices.Signals.{message_place}

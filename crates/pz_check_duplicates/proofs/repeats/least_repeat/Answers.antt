@@ -1,10 +1,10 @@
 use Rattle.std.proofs.Common.{◌≡◌, sym, subst, ap, ◌∙◌, None}
 use Rattle.std.specs.List.{flat_map}
 use Rattle.std.proofs.lemmas.Result.{IfOk-weaker}
-use Rattle.pz_syntax.specs.declared.clusters.Decl.{Decl}
-use Rattle.pz_syntax.specs.ClassView.{decl_view, model_view}
+use Rattle.pz_classes.specs.pz_syntax.declared.clusters.Decl.{Decl}
+use Rattle.pz_classes.specs.pz_syntax.ClassView.{decl_view, model_view}
 use Rattle.pz_check_violations.specs.Least.{LeastOf, least_from}
-use Rattle.pz_classes.specs.RepeatRules.{BreaksC4}
+use Rattle.pz_classes.specs.pz_classes_rules.RepeatRules.{BreaksC4}
 use Rattle.pz_check_duplicates.specs.declared.inherited.Inherited.TheVariants.{Fields, Variables, Ports}
 use Rattle.pz_check_duplicates.specs.devices.RepeatList.{of_own, of_visits, all_repeats}
 use Rattle.pz_check_duplicates.proofs.Steps.{flat_view, searched}

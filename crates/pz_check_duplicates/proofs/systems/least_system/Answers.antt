@@ -1,8 +1,8 @@
 use Rattle.std.proofs.Common.{◌≡◌, sym, subst, ap, ◌∙◌, refl, true, false, List, [], map, None}
 use Rattle.std.proofs.lemmas.Result.{IfOk-weaker}
-use Rattle.pz_syntax.specs.ClassView.{model_view}
+use Rattle.pz_classes.specs.pz_syntax.ClassView.{model_view}
 use Rattle.pz_check_violations.specs.Least.{LeastOf, least_from}
-use Rattle.pz_classes.specs.SizeRules.{systems, BreaksC20}
+use Rattle.pz_classes.specs.pz_classes_rules.SizeRules.{systems, BreaksC20}
 use Rattle.pz_check_duplicates.specs.devices.Again.{same_key, thing_place, repeats}
 use Rattle.pz_check_duplicates.specs.devices.Systems.{any_two_systems, system_place}
 use Rattle.pz_check_duplicates.proofs.AlikeKeys.{alike_repeat, systems_repeat, none_mapped, none_seen}

@@ -1,7 +1,7 @@
 use Rattle.std.proofs.Common.{◌≡◌, map, take}
 use Rattle.std.specs.List.{flat_map}
-use Rattle.pz_syntax.specs.ClassView.{decl_view}
-use Rattle.pz_classes.specs.SizeRules.{system_of}
+use Rattle.pz_classes.specs.pz_syntax.ClassView.{decl_view}
+use Rattle.pz_classes.specs.pz_classes_rules.SizeRules.{system_of}
 use Rattle.pz_check_duplicates.specs.devices.Again.{thing_place}
 use Rattle.pz_check_duplicates.specs.devices.Systems.{system_place}
 use Rattle.pz_check_duplicates.proofs.systems.system_things.Given as goal

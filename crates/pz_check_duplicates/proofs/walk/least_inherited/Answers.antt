@@ -1,7 +1,7 @@
 use Rattle.std.proofs.Common.{◌≡◌, ◌+◌, suc, get_or, arith}
 use Rattle.std.proofs.lemmas.List.{get_or_default}
-use Rattle.pz_syntax.specs.ClassView.{model_view}
-use Rattle.pz_classes.specs.Ancestors.{ancestors}
+use Rattle.pz_classes.specs.pz_syntax.ClassView.{model_view}
+use Rattle.pz_classes.specs.pz_classes_rules.Ancestors.{ancestors}
 use Rattle.pz_classes_lineage.specs.declared.visit.Visit.{Visit}
 use Rattle.pz_check_duplicates.specs.devices.RepeatList.{of_line}
 use Rattle.pz_check_duplicates.proofs.Known.{knows_closed}

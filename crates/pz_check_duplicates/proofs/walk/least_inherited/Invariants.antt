@@ -1,5 +1,5 @@
 use Rattle.std.proofs.Common.{◌≡◌, drop}
-use Rattle.pz_syntax.specs.ClassView.{model_view}
+use Rattle.pz_classes.specs.pz_syntax.ClassView.{model_view}
 use Rattle.pz_check_violations.specs.Least.{least_from}
 use Rattle.pz_check_duplicates.specs.devices.RepeatList.{of_visits}
 use Rattle.pz_check_duplicates.proofs.Openings.{Walks}

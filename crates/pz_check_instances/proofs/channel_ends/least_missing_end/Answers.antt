@@ -3,13 +3,13 @@ use Rattle.std.specs.List.{flat_map}
 use Rattle.std.proofs.lemmas.Grind.{common_steps}
 use Rattle.std.proofs.lemmas.List.{length-map}
 use Rattle.std.proofs.lemmas.Option.{slice_get-get_or, get_or_from_slice_get}
-use Rattle.pz_syntax.specs.ClassView.{decl_view, model_view}
+use Rattle.pz_classes_code.specs.pz_syntax.ClassView.{decl_view, model_view}
 use Rattle.pz_classes_lineage.specs.declared.visit.Visit.{Visit}
-use Rattle.pz_check_violations.specs.declared.violation.Violation.{Violation}
-use Rattle.pz_check_violations.specs.Least.{LeastOf, least_from}
-use Rattle.pz_check_violations.proofs.Leasts.{least_from_append}
-use Rattle.pz_classes.specs.Members.{spelled, own_ports}
-use Rattle.pz_classes.specs.ChannelRules.{BreaksC16}
+use Rattle.pz_classes.specs.pz_check_violations.declared.violation.Violation.{Violation}
+use Rattle.pz_classes.specs.pz_check_violations.Least.{LeastOf, least_from}
+use Rattle.pz_classes.proofs.pz_check_violations_proofs.Leasts.{least_from_append}
+use Rattle.pz_classes.specs.pz_classes_rules.Members.{spelled, own_ports}
+use Rattle.pz_classes.specs.pz_classes_rules.ChannelRules.{BreaksC16}
 use Rattle.pz_check_instances.specs.declared.channel_ends.Asked.{Asked}
 use Rattle.pz_check_instances.specs.devices.Ends.{over, missing_at, absent_in, missing_ends}
 use Rattle.pz_check_instances.specs.devices.Search.{wanted}

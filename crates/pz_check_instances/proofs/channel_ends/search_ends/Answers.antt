@@ -1,6 +1,6 @@
 use Rattle.std.proofs.Common.{◌∙◌, ◌+◌, arith}
-use Rattle.pz_syntax.specs.ClassView.{model_view}
-use Rattle.pz_classes.proofs.FewMarks.{room, item_fits}
+use Rattle.pz_classes_code.specs.pz_syntax.ClassView.{model_view}
+use Rattle.pz_classes.proofs.pz_classes_rules_proofs.FewMarks.{room, item_fits}
 use Rattle.pz_check_instances.specs.devices.Ends.{missing_at, wanted_at}
 use Rattle.pz_check_instances.specs.devices.Search.{wanted_of}
 use Rattle.pz_check_instances.proofs.Steps.{over_step, over_least_step}

@@ -1,6 +1,6 @@
 use Rattle.std.proofs.Common.{◌≡◌, ◌++◌, ℕ, suc, None, length, map, drop}
-use Rattle.pz_syntax.specs.ClassView.{decl_view, model_view}
-use Rattle.pz_check_violations.specs.Least.{least_from}
+use Rattle.pz_classes_code.specs.pz_syntax.ClassView.{decl_view, model_view}
+use Rattle.pz_classes.specs.pz_check_violations.Least.{least_from}
 use Rattle.pz_check_instances.specs.devices.Ends.{missing_at, wanted_at, over}
 use Rattle.pz_check_instances.specs.devices.Search.{wanted_of, search_count}
 use Rattle.pz_check_instances.proofs.channel_ends.search_ends.Given as goal

@@ -1,5 +1,5 @@
 use Rattle.std.proofs.Common.{◌≡◌, ◌++◌, ℕ, map, drop}
-use Rattle.pz_syntax.specs.ClassView.{model_view}
+use Rattle.pz_classes_code.specs.pz_syntax.ClassView.{model_view}
 use Rattle.pz_check_instances.specs.devices.ClassRows.{row, row_count}
 use Rattle.pz_check_instances.specs.devices.Given.{of_class}
 use Rattle.pz_check_instances.proofs.given.add_instances.Given as goal

@@ -1,7 +1,7 @@
 use Rattle.std.proofs.Common.{◌≡◌, ◌++◌, ℕ, suc, length, map, drop}
 use Rattle.std.specs.List.{flat_map}
-use Rattle.pz_syntax.specs.ClassView.{decl_view, model_view}
-use Rattle.pz_classes.specs.Instances.{instances}
+use Rattle.pz_classes_code.specs.pz_syntax.ClassView.{decl_view, model_view}
+use Rattle.pz_classes.specs.pz_classes_rules.Instances.{instances}
 use Rattle.pz_check_instances.specs.devices.ClassRows.{row, row_count}
 use Rattle.pz_check_instances.specs.devices.Given.{of_class, all_instances}
 use Rattle.pz_check_instances.proofs.given.instances_by_class.Given as goal

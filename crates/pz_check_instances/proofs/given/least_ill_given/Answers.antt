@@ -2,14 +2,14 @@ use Rattle.std.proofs.Common.{◌≡◌, ◌∙◌, sym, ap, subst, ◌≤◌, L
 use Rattle.std.proofs.lemmas.Grind.{common_steps}
 use Rattle.std.proofs.lemmas.List.{length-map}
 use Rattle.std.proofs.lemmas.Option.{slice_get-get_or, get_or_from_slice_get}
-use Rattle.pz_syntax.specs.declared.clusters.Instance.{Instance}
-use Rattle.pz_syntax.specs.ClassView.{decl_view, model_view}
+use Rattle.pz_classes_code.specs.pz_syntax.declared.clusters.Instance.{Instance}
+use Rattle.pz_classes_code.specs.pz_syntax.ClassView.{decl_view, model_view}
 use Rattle.pz_classes_lineage.specs.declared.visit.Visit.{Visit}
-use Rattle.pz_check_violations.specs.declared.violation.Violation.{Violation}
-use Rattle.pz_check_violations.specs.Least.{LeastOf, least_from}
-use Rattle.pz_classes.specs.Members.{spelled}
-use Rattle.pz_classes.specs.Instances.{own_parameters}
-use Rattle.pz_classes.specs.InstanceRules.{BreaksC14}
+use Rattle.pz_classes.specs.pz_check_violations.declared.violation.Violation.{Violation}
+use Rattle.pz_classes.specs.pz_check_violations.Least.{LeastOf, least_from}
+use Rattle.pz_classes.specs.pz_classes_rules.Members.{spelled}
+use Rattle.pz_classes.specs.pz_classes_rules.Instances.{own_parameters}
+use Rattle.pz_classes.specs.pz_classes_rules.InstanceRules.{BreaksC14}
 use Rattle.pz_check_instances.specs.devices.Given.{ill_given_in, all_given}
 use Rattle.pz_check_instances.proofs.Line.{line_after, scopes_of}
 use Rattle.pz_check_instances.proofs.Numbered.{visit_within}

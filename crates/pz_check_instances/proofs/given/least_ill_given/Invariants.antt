@@ -1,8 +1,8 @@
 use Rattle.std.proofs.Common.{◌≡◌, None, drop}
 use Rattle.std.specs.List.{flat_map}
-use Rattle.pz_syntax.specs.ClassView.{model_view}
-use Rattle.pz_check_violations.specs.Least.{least_from}
-use Rattle.pz_classes.specs.Instances.{own_parameters}
+use Rattle.pz_classes_code.specs.pz_syntax.ClassView.{model_view}
+use Rattle.pz_classes.specs.pz_check_violations.Least.{least_from}
+use Rattle.pz_classes.specs.pz_classes_rules.Instances.{own_parameters}
 use Rattle.pz_check_instances.specs.devices.Open.{HasOpen}
 use Rattle.pz_check_instances.specs.devices.Given.{ill_given_in, all_given}
 use Rattle.pz_check_instances.proofs.Line.{line_after, scopes_of}

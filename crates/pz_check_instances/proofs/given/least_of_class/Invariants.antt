@@ -1,6 +1,6 @@
 use Rattle.std.proofs.Common.{◌≡◌, drop}
 use Rattle.std.specs.List.{flat_map}
-use Rattle.pz_check_violations.specs.Least.{least_from}
+use Rattle.pz_classes.specs.pz_check_violations.Least.{least_from}
 use Rattle.pz_check_instances.specs.devices.NameSets.{names_in}
 use Rattle.pz_check_instances.specs.devices.Given.{lacking}
 use Rattle.pz_check_instances.proofs.given.least_of_class.Given as goal

@@ -1,5 +1,5 @@
 use Rattle.std.proofs.Common.{refl, []}
-use Rattle.pz_syntax.specs.ClassView.{start_view}
+use Rattle.pz_classes_code.specs.pz_syntax.ClassView.{start_view}
 use Rattle.pz_check_names.proofs.Shown.{noted_shown}
 use Rattle.pz_check_names.proofs.inherited.note_start.Goals as goal
 

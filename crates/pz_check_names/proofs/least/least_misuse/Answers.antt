@@ -1,8 +1,8 @@
 use Rattle.std.proofs.Common.{◌≡◌, None, sym, subst}
-use Rattle.pz_syntax.specs.ClassView.{model_view}
+use Rattle.pz_classes_code.specs.pz_syntax.ClassView.{model_view}
 use Rattle.pz_classes_lineage.specs.Preorder.{visited}
 use Rattle.pz_check_violations.specs.Least.{LeastOf, least_from}
-use Rattle.pz_classes.specs.WordRules.{BreaksWord}
+use Rattle.pz_classes.specs.pz_classes_rules.WordRules.{BreaksWord}
 use Rattle.pz_check_names.specs.devices.Misuses.{misuses}
 use Rattle.pz_check_names.proofs.Found.{least_found}
 use Rattle.pz_check_names.proofs.Sets.{if_ok}

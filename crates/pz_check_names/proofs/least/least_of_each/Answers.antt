@@ -1,5 +1,5 @@
 use Rattle.std.proofs.Common.{refl, sym, subst, ℕ, suc, ◌+◌, List, [], get_or, arith}
-use Rattle.pz_classes.specs.Ancestors.{ancestors}
+use Rattle.pz_classes.specs.pz_classes_rules.Ancestors.{ancestors}
 use Rattle.pz_classes_lineage.specs.declared.visit.Visit.{Visit}
 use Rattle.pz_check_names.specs.devices.Inherited.{IsOpen}
 use Rattle.pz_check_names.specs.devices.Scopes.{model_of}

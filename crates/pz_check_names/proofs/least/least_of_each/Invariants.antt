@@ -1,5 +1,5 @@
 use Rattle.std.proofs.Common.{◌≡◌, ℕ, List, None, drop}
-use Rattle.pz_classes.specs.Preorder.{Opens}
+use Rattle.pz_classes.specs.pz_classes_rules.Preorder.{Opens}
 use Rattle.pz_classes_lineage.specs.Preorder.{visited}
 use Rattle.pz_check_violations.specs.Least.{least_from}
 use Rattle.pz_check_names.specs.devices.Inherited.{IsOpen}

@@ -3,7 +3,7 @@ use Rattle.std.proofs.lemmas.List.{append-nil}
 use Rattle.std.specs.Bool.{beq}
 use Rattle.std.specs.Option.{unwrap_or}
 use Rattle.std.specs.Str.{bytes_eq}
-use Rattle.pz_syntax.specs.declared.classes.Message.{Message}
+use Rattle.pz_classes_code.specs.pz_syntax.declared.classes.Message.{Message}
 use Rattle.pz_check_names.specs.devices.Shown.{ShowsMessages}
 use Rattle.pz_check_names.proofs.Shown.{next_shown, all_taken}
 use Rattle.pz_check_names.proofs.Sets.{and_assoc}

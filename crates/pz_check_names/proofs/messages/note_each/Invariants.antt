@@ -1,5 +1,5 @@
 use Rattle.std.proofs.Common.{List, ◌∷◌, ◌++◌, take}
-use Rattle.pz_syntax.specs.declared.classes.Message.{Message}
+use Rattle.pz_classes_code.specs.pz_syntax.declared.classes.Message.{Message}
 use Rattle.pz_check_names.specs.devices.Shown.{ShowsMessages}
 use Rattle.pz_check_names.proofs.messages.note_each.Given as goal
 

@@ -1,8 +1,8 @@
 use Rattle.std.proofs.Common.{sym, subst, List, ◌∷◌, ◌++◌, map, take, arith}
 use Rattle.std.proofs.lemmas.List.{append-nil, take_all}
-use Rattle.pz_syntax.specs.declared.classes.ProcessMethod.{ProcessMethod}
-use Rattle.pz_syntax.specs.Classes.{ProcessMethodTree}
-use Rattle.pz_syntax.specs.ClassView.{process_method_view}
+use Rattle.pz_classes_code.specs.pz_syntax.declared.classes.ProcessMethod.{ProcessMethod}
+use Rattle.pz_classes_code.specs.pz_syntax.Classes.{ProcessMethodTree}
+use Rattle.pz_classes_code.specs.pz_syntax.ClassView.{process_method_view}
 use Rattle.pz_check_names.specs.devices.Shown.{ShowsMethods}
 use Rattle.pz_check_names.proofs.Shown.{noted_shown, mapped_after}
 use Rattle.pz_check_names.proofs.Calls.{call_alike}

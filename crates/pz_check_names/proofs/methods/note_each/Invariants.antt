@@ -1,6 +1,6 @@
 use Rattle.std.proofs.Common.{List, ◌∷◌, ◌++◌, map, take}
-use Rattle.pz_syntax.specs.Classes.{ProcessMethodTree}
-use Rattle.pz_syntax.specs.ClassView.{process_method_view}
+use Rattle.pz_classes_code.specs.pz_syntax.Classes.{ProcessMethodTree}
+use Rattle.pz_classes_code.specs.pz_syntax.ClassView.{process_method_view}
 use Rattle.pz_check_names.specs.devices.Shown.{ShowsMethods}
 use Rattle.pz_check_names.proofs.methods.note_each.Given as goal
 

@@ -1,8 +1,8 @@
 use Rattle.std.proofs.Common.{◌≡◌, sym, subst, List, ◌∷◌, ◌++◌, take, arith, rules}
 use Rattle.std.proofs.lemmas.List.{append-nil, take_all}
-use Rattle.pz_syntax.specs.declared.names.Id.{Id}
-use Rattle.pz_syntax.specs.declared.classes.VarGroup.{VarGroup}
-use Rattle.pz_classes.specs.Members.{grouped}
+use Rattle.pz_classes_code.specs.pz_syntax.declared.names.Id.{Id}
+use Rattle.pz_classes_code.specs.pz_syntax.declared.classes.VarGroup.{VarGroup}
+use Rattle.pz_classes.specs.pz_classes_rules.Members.{grouped}
 use Rattle.pz_check_names.specs.devices.Shown.{ShowsNames}
 use Rattle.pz_check_names.proofs.Shown.{flat_after}
 use Rattle.pz_check_names.proofs.names.note_groups.Goals as goal

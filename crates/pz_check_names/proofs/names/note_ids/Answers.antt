@@ -1,6 +1,6 @@
 use Rattle.std.proofs.Common.{◌≡◌, refl, sym, subst, List, ◌∷◌, arith, rules}
 use Rattle.std.proofs.lemmas.List.{append-nil}
-use Rattle.pz_syntax.specs.declared.names.Id.{Id}
+use Rattle.pz_classes_code.specs.pz_syntax.declared.names.Id.{Id}
 use Rattle.pz_check_names.specs.devices.Shown.{ShowsNames}
 use Rattle.pz_check_names.proofs.Shown.{next_shown, all_taken}
 use Rattle.pz_check_names.proofs.names.note_ids.Goals as goal

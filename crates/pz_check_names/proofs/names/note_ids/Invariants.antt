@@ -1,5 +1,5 @@
 use Rattle.std.proofs.Common.{List, ◌∷◌, ◌++◌, take}
-use Rattle.pz_syntax.specs.declared.names.Id.{Id}
+use Rattle.pz_classes_code.specs.pz_syntax.declared.names.Id.{Id}
 use Rattle.pz_check_names.specs.devices.Shown.{ShowsNames}
 use Rattle.pz_check_names.proofs.names.note_ids.Given as goal
 

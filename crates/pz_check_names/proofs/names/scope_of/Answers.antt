@@ -1,6 +1,6 @@
 use Rattle.std.proofs.Common.{subst, List, [], ◌∷◌, ◌++◌, append_assoc}
-use Rattle.pz_syntax.specs.declared.names.Id.{Id}
-use Rattle.pz_classes.specs.Members.{grouped}
+use Rattle.pz_classes_code.specs.pz_syntax.declared.names.Id.{Id}
+use Rattle.pz_classes.specs.pz_classes_rules.Members.{grouped}
 use Rattle.pz_check_names.specs.devices.Shown.{ShowsNames}
 use Rattle.pz_check_names.proofs.Shown.{none_shown, opened_shown}
 use Rattle.pz_check_names.proofs.names.scope_of.Goals as goal

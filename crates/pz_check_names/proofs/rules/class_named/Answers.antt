@@ -1,6 +1,6 @@
 use Rattle.std.proofs.Common.{sym, option_map}
 use Rattle.std.specs.Option.{option_copied}
-use Rattle.pz_syntax.specs.ClassView.{decl_view, model_view}
+use Rattle.pz_classes_code.specs.pz_syntax.ClassView.{decl_view, model_view}
 use Rattle.pz_check_names.proofs.Classes.{named_found, none_named}
 use Rattle.pz_check_names.proofs.rules.class_named.Goals as goal
 

@@ -1,4 +1,4 @@
-use Rattle.pz_classes.specs.Ancestors.{ancestors}
+use Rattle.pz_classes.specs.pz_classes_rules.Ancestors.{ancestors}
 use Rattle.pz_check_names.specs.devices.Scopes.{model_of}
 use Rattle.pz_check_names.proofs.scopes.has_shared.Goals as goal
 

@@ -1,5 +1,5 @@
 use Rattle.std.proofs.Common.{ap, Bool, not}
-use Rattle.pz_classes.specs.Ancestors.{ancestors}
+use Rattle.pz_classes.specs.pz_classes_rules.Ancestors.{ancestors}
 use Rattle.pz_check_names.specs.devices.Scopes.{model_of}
 use Rattle.pz_check_names.proofs.scopes.lacks_port.Goals as goal
 

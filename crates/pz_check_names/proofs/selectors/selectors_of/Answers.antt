@@ -1,4 +1,4 @@
-use Rattle.pz_classes.proofs.FewMarks.{item_fits}
+use Rattle.pz_classes.proofs.pz_classes_rules_proofs.FewMarks.{item_fits}
 use Rattle.pz_check_names.proofs.selectors.selectors_of.Goals as goal
 
 pub add_declared-requires : goal.add_declared-requires

@@ -1,6 +1,6 @@
 use Rattle.std.proofs.Common.{◌≡◌, drop}
 use Rattle.std.specs.List.{list_any}
-use Rattle.pz_syntax.specs.ClassView.{model_view}
+use Rattle.pz_classes_code.specs.pz_syntax.ClassView.{model_view}
 use Rattle.pz_check_names.specs.devices.Unsized.{is_unsized_part}
 use Rattle.pz_check_names.proofs.sizes.has_unsized_part.Given as goal
 

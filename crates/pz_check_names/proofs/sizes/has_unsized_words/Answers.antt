@@ -1,8 +1,8 @@
 use Rattle.std.proofs.Common.{◌≡◌, ◌⊎◌, true, false}
-use Rattle.pz_syntax.specs.declared.tokens.Pos.{Pos}
-use Rattle.pz_syntax.specs.ClassView.{model_view}
+use Rattle.pz_classes_code.specs.pz_syntax.declared.tokens.Pos.{Pos}
+use Rattle.pz_classes_code.specs.pz_syntax.ClassView.{model_view}
 use Rattle.pz_check_violations.specs.Order.{violation}
-use Rattle.pz_classes.specs.WordRules.{BreaksWord}
+use Rattle.pz_classes.specs.pz_classes_rules.WordRules.{BreaksWord}
 use Rattle.pz_check_names.specs.devices.Unsized.{is_unsized_model}
 use Rattle.pz_check_names.proofs.Sets.{if_ok}
 use Rattle.pz_check_names.proofs.Unsized.{some_broken, none_broken}

@@ -1,5 +1,5 @@
 use Rattle.std.proofs.Common.{ap, ◌∙◌, Bool, false, List, [], ◌∷◌, ◌++◌, length}
-use Rattle.pz_syntax.specs.ClassView.{decl_view, model_view}
+use Rattle.pz_classes.specs.pz_syntax.ClassView.{decl_view, model_view}
 use Rattle.pz_check_openings.proofs.Marks.{none_so_far, one_more_mark, all_marked, read_decl, all_read}
 use Rattle.pz_check_openings.proofs.declaring.declaring.Goals as goal
 

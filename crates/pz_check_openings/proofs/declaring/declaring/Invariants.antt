@@ -1,4 +1,4 @@
-use Rattle.pz_syntax.specs.ClassView.{model_view}
+use Rattle.pz_classes.specs.pz_syntax.ClassView.{model_view}
 use Rattle.pz_check_openings.proofs.Marks.{AreSoFar}
 use Rattle.pz_check_openings.proofs.declaring.declaring.Given as goal
 

@@ -1,5 +1,5 @@
 use Rattle.std.proofs.Common.{subst, length, ℕ, arith, ◌≡◌}
-use Rattle.pz_check_violations.specs.Least.{LeastOf}
+use Rattle.pz_classes.specs.pz_check_violations.Least.{LeastOf}
 use Rattle.pz_classes.specs.CheckedView.{checked_model}
 use Rattle.pz_check_openings.specs.devices.InClass.{Among, LargeAt}
 use Rattle.pz_check_openings.proofs.Gathering.{none_among, one_among}

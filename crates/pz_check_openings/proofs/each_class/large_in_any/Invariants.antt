@@ -1,4 +1,4 @@
-use Rattle.pz_check_violations.specs.Least.{LeastOf}
+use Rattle.pz_classes.specs.pz_check_violations.Least.{LeastOf}
 use Rattle.pz_classes.specs.CheckedView.{checked_model}
 use Rattle.pz_check_openings.specs.devices.InClass.{Among, LargeIn}
 use Rattle.pz_check_openings.specs.devices.Suspects.{Marked}

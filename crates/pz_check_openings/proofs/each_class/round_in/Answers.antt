@@ -1,6 +1,6 @@
 use Rattle.std.proofs.Common.{◌≡◌, ◌∙◌, sym, List, subst, None}
 use Rattle.std.proofs.lemmas.Result.{IfOk-weaker}
-use Rattle.pz_check_violations.specs.Least.{LeastOf}
+use Rattle.pz_classes.specs.pz_check_violations.Least.{LeastOf}
 use Rattle.pz_classes.specs.CheckedView.{checked_model}
 use Rattle.pz_check_calls.specs.declared.graph.Method.{Method}
 use Rattle.pz_check_calls.specs.Calls.{IsRound}

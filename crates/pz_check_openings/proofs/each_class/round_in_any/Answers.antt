@@ -1,7 +1,7 @@
 use Rattle.std.proofs.Common.{subst, length, ◌+◌, sym, ◌∙◌, ap, ℕ, arith, ◌≡◌, ◌≤◌}
-use Rattle.pz_check_violations.specs.Least.{LeastOf}
+use Rattle.pz_classes.specs.pz_check_violations.Least.{LeastOf}
 use Rattle.pz_classes.specs.CheckedView.{checked_model}
-use Rattle.pz_classes.specs.Tables.{class_id}
+use Rattle.pz_classes.specs.pz_classes_rules.ClassNames.{class_id}
 use Rattle.pz_check_openings.specs.devices.InClass.{Among, RoundIn}
 use Rattle.pz_check_openings.specs.devices.Suspects.{Marked}
 use Rattle.pz_check_openings.proofs.Gathering.{none_among, one_among}

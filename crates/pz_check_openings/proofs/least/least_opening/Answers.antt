@@ -1,6 +1,6 @@
 use Rattle.std.proofs.Common.{◌∙◌, ap, Option}
 use Rattle.std.proofs.lemmas.Result.{IfOk-weaker}
-use Rattle.pz_check_violations.specs.declared.violation.Violation.{Violation}
+use Rattle.pz_classes.specs.pz_check_violations.declared.violation.Violation.{Violation}
 use Rattle.pz_classes.specs.CheckedView.{checked_model}
 use Rattle.pz_check_openings.specs.Answers.{Tells}
 use Rattle.pz_check_openings.specs.devices.Outlines.{outlines}

@@ -1,8 +1,8 @@
 use Rattle.std.proofs.Common.{Option}
 use Rattle.std.proofs.lemmas.Result.{IfOk-weaker}
-use Rattle.pz_check_violations.specs.declared.violation.Violation.{Violation}
-use Rattle.pz_check_violations.specs.Least.{LeastOf}
-use Rattle.pz_syntax.specs.ClassView.{model_view}
+use Rattle.pz_classes.specs.pz_check_violations.declared.violation.Violation.{Violation}
+use Rattle.pz_classes.specs.pz_check_violations.Least.{LeastOf}
+use Rattle.pz_classes.specs.pz_syntax.ClassView.{model_view}
 use Rattle.pz_classes.specs.CheckedView.{checked_model}
 use Rattle.pz_classes_openings.specs.OpeningRules.{BreaksC24}
 use Rattle.pz_check_openings.proofs.Sizing.{sizes_told}

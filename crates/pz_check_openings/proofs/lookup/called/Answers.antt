@@ -1,6 +1,6 @@
 use Rattle.std.proofs.Common.{◌≡◌, ◌∙◌, ap, ℕ, List}
 use Rattle.pz_classes.specs.CheckedView.{checked_model}
-use Rattle.pz_classes.specs.Methods.{process_method}
+use Rattle.pz_classes.specs.pz_classes_rules.Methods.{process_method}
 use Rattle.pz_check_openings.proofs.Merely.{method_merely}
 use Rattle.pz_check_openings.proofs.lookup.called.Goals as goal
 

@@ -1,8 +1,8 @@
 use Rattle.std.proofs.Common.{◌≡◌, ◌<◌, ◌+◌, ◌^◌, length, subst, arith}
-use Rattle.pz_syntax.specs.Classes.{ModelTree}
-use Rattle.pz_syntax.specs.ModelText.{HasFewMarks}
+use Rattle.pz_classes.specs.pz_syntax.Classes.{ModelTree}
+use Rattle.pz_classes.specs.pz_syntax.ModelText.{HasFewMarks}
 use Rattle.pz_classes.specs.CheckedView.{checked_model}
-use Rattle.pz_classes.proofs.FewMarks.{decls_few}
+use Rattle.pz_classes.proofs.pz_classes_rules_proofs.FewMarks.{decls_few}
 use Rattle.pz_check_openings.proofs.Merely.{count_merely}
 use Rattle.pz_check_openings.proofs.lookup.count.Goals as goal
 

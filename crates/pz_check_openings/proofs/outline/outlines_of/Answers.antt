@@ -1,6 +1,6 @@
 use Rattle.std.proofs.Common.{◌<◌, ◌∙◌, ap, subst, List, length, get_or}
-use Rattle.pz_syntax.specs.declared.clusters.Decl.{Decl}
-use Rattle.pz_classes.proofs.FewMarks.{item_fits}
+use Rattle.pz_classes.specs.pz_syntax.declared.clusters.Decl.{Decl}
+use Rattle.pz_classes.proofs.pz_classes_rules_proofs.FewMarks.{item_fits}
 use Rattle.pz_check_openings.proofs.outline.outlines_of.Goals as goal
 
 pub push_declared-requires : goal.push_declared-requires

@@ -1,6 +1,6 @@
 use Rattle.std.proofs.Common.{◌≡◌, ◌++◌, map, drop}
 use Rattle.std.specs.List.{flat_map}
-use Rattle.pz_syntax.specs.ClassView.{decl_view, model_view}
+use Rattle.pz_classes.specs.pz_syntax.ClassView.{decl_view, model_view}
 use Rattle.pz_check_openings.specs.devices.Outlines.{declared_outlines, outlines}
 use Rattle.pz_check_openings.proofs.outline.outlines_of.Given as goal
 

@@ -1,5 +1,5 @@
 use Rattle.std.proofs.lemmas.Result.{on_ok_weaker}
-use Rattle.pz_classes.proofs.FewMarks.{process_methods_fit, process_inputs_fit, process_outputs_fit}
+use Rattle.pz_classes.proofs.pz_classes_rules_proofs.FewMarks.{process_methods_fit, process_inputs_fit, process_outputs_fit}
 use Rattle.pz_check_openings.proofs.Listed.{process_outlines}
 use Rattle.pz_check_openings.proofs.outline.push_declared.Goals as goal
 

@@ -1,5 +1,5 @@
 use Rattle.std.proofs.Common.{◌≡◌, ◌++◌, map, take, Some}
-use Rattle.pz_syntax.specs.ClassView.{process_method_view}
+use Rattle.pz_classes.specs.pz_syntax.ClassView.{process_method_view}
 use Rattle.pz_check_openings.specs.devices.Outlines.{outline_of}
 use Rattle.pz_check_openings.proofs.outline.push_process.Given as goal
 

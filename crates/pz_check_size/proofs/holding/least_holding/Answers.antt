@@ -1,4 +1,4 @@
-use Rattle.pz_syntax.specs.ClassView.{model_view}
+use Rattle.pz_classes.specs.pz_syntax.ClassView.{model_view}
 use Rattle.pz_check_size.proofs.SelfHolding.{found_holding}
 use Rattle.pz_check_size.proofs.holding.least_holding.Goals as goal
 

@@ -1,5 +1,5 @@
 use Rattle.std.proofs.Common.{◌≡◌, take}
-use Rattle.pz_syntax.specs.ClassView.{model_view}
+use Rattle.pz_classes.specs.pz_syntax.ClassView.{model_view}
 use Rattle.pz_check_size.specs.devices.Nodes.{all_held}
 use Rattle.pz_check_size.proofs.nodes.held_of.Given as goal
 

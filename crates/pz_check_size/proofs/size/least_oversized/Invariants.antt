@@ -1,5 +1,5 @@
 use Rattle.std.proofs.Common.{◌≡◌, suc, None, map, drop}
-use Rattle.pz_syntax.specs.ClassView.{decl_view, model_view}
+use Rattle.pz_classes.specs.pz_syntax.ClassView.{decl_view, model_view}
 use Rattle.pz_check_violations.specs.Least.{least_from}
 use Rattle.pz_check_size.specs.devices.Oversized.{oversized_among}
 use Rattle.pz_check_size.proofs.size.least_oversized.Given as goal

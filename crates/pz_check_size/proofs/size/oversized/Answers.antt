@@ -1,4 +1,4 @@
-use Rattle.pz_syntax.specs.ClassView.{model_view}
+use Rattle.pz_classes.specs.pz_syntax.ClassView.{model_view}
 use Rattle.pz_check_size.proofs.Sizes.{found_oversized}
 use Rattle.pz_check_size.proofs.Sized.{none_held}
 use Rattle.pz_check_size.proofs.size.oversized.Goals as goal

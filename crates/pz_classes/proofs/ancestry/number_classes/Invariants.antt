@@ -1,7 +1,7 @@
 use Rattle.std.proofs.Common.{◌≡◌, ℕ, suc, List, map, drop}
 use Rattle.std.specs.Option.{option_or}
-use Rattle.pz_syntax.specs.ClassView.{decl_view, model_view}
-use Rattle.pz_classes.specs.Numbers.{class, first_named}
+use Rattle.pz_classes_code.specs.pz_syntax.ClassView.{decl_view, model_view}
+use Rattle.pz_classes_rules.specs.Numbers.{class, first_named}
 use Rattle.pz_classes_code.specs.NumberIn.{number_in}
 use Rattle.pz_classes.proofs.ancestry.number_classes.Given as goal
 

@@ -1,7 +1,7 @@
 use Rattle.std.proofs.Common.{◌≡◌, None, ◌∷◌, map, refl, arith}
 use Rattle.std.proofs.lemmas.Grind.{common_steps}
-use Rattle.pz_syntax.specs.ClassView.{decl_view, model_view}
-use Rattle.pz_classes.specs.Ancestors.{parent_of}
+use Rattle.pz_classes_code.specs.pz_syntax.ClassView.{decl_view, model_view}
+use Rattle.pz_classes_rules.specs.Ancestors.{parent_of}
 use Rattle.pz_classes.proofs.Lines.{parents_are}
 use Rattle.pz_classes.proofs.ancestry.parents_of.Goals as goal
 

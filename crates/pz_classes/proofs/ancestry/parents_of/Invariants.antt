@@ -1,6 +1,6 @@
 use Rattle.std.proofs.Common.{◌≡◌, None, ◌∷◌, map, take}
-use Rattle.pz_syntax.specs.ClassView.{decl_view, model_view}
-use Rattle.pz_classes.specs.Ancestors.{parent_of}
+use Rattle.pz_classes_code.specs.pz_syntax.ClassView.{decl_view, model_view}
+use Rattle.pz_classes_rules.specs.Ancestors.{parent_of}
 use Rattle.pz_classes.proofs.ancestry.parents_of.Given as goal
 
 abbrev pub invariant-loop-decl : goal.invariant-loop-decl

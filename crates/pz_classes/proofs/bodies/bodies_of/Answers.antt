@@ -1,11 +1,11 @@
 use Rattle.std.proofs.Common.{map, ◌+◌, refl, subst, arith}
 use Rattle.pz_classes.specs.declared.entry.Entry.{Entry}
-use Rattle.pz_classes.specs.Ancestors.{ancestors}
+use Rattle.pz_classes_rules.specs.Ancestors.{ancestors}
 use Rattle.pz_classes.specs.devices.Inherited.{HasMembers}
-use Rattle.pz_syntax.specs.ClassView.{model_view}
-use Rattle.pz_classes.specs.Bodies.{bodies}
-use Rattle.pz_classes.specs.BodyView.{body_view}
-use Rattle.pz_classes.proofs.FewMarks.{item_fits}
+use Rattle.pz_classes_code.specs.pz_syntax.ClassView.{model_view}
+use Rattle.pz_classes_rules.specs.Bodies.{bodies}
+use Rattle.pz_classes_rules.specs.BodyView.{body_view}
+use Rattle.pz_classes_rules.proofs.FewMarks.{item_fits}
 use Rattle.pz_classes.proofs.Counting.{bodies_step, has_members, is_entry}
 use Rattle.pz_classes.proofs.bodies.bodies_of.Goals as goal
 

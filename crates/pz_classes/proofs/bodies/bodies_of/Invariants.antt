@@ -1,7 +1,7 @@
 use Rattle.std.proofs.Common.{◌≡◌, ◌++◌, suc, map, drop}
-use Rattle.pz_syntax.specs.ClassView.{decl_view, model_view}
-use Rattle.pz_classes.specs.Bodies.{bodies_from, bodies}
-use Rattle.pz_classes.specs.BodyView.{body_view}
+use Rattle.pz_classes_code.specs.pz_syntax.ClassView.{decl_view, model_view}
+use Rattle.pz_classes_rules.specs.Bodies.{bodies_from, bodies}
+use Rattle.pz_classes_rules.specs.BodyView.{body_view}
 use Rattle.pz_classes.proofs.bodies.bodies_of.Given as goal
 
 abbrev pub invariant-loop-decl : goal.invariant-loop-decl

@@ -1,7 +1,7 @@
 use Rattle.std.proofs.Common.{◌≡◌, ap, subst, ◌∙◌, ℕ, List, length}
-use Rattle.pz_syntax.specs.declared.stmts.Stmt.{Stmt}
-use Rattle.pz_syntax.specs.ClassView.{process_method_view}
-use Rattle.pz_syntax.specs.StatementView as tree
+use Rattle.pz_classes_code.specs.pz_syntax.declared.stmts.Stmt.{Stmt}
+use Rattle.pz_classes_code.specs.pz_syntax.ClassView.{process_method_view}
+use Rattle.pz_classes_code.specs.pz_syntax.StatementView as tree
 use Rattle.pz_classes_code.specs.NumberIn.{number_in}
 use Rattle.pz_classes_code.specs.StepView.{sequence_view}
 use Rattle.pz_classes_code.specs.Resolution.{resolved_statements}

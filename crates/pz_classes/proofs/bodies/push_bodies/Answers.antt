@@ -1,4 +1,4 @@
-use Rattle.pz_classes.proofs.FewMarks.{data_methods_fit, process_methods_fit}
+use Rattle.pz_classes_rules.proofs.FewMarks.{data_methods_fit, process_methods_fit}
 use Rattle.pz_classes.proofs.bodies.push_bodies.Goals as goal
 
 pub push_data_bodies-requires : goal.push_data_bodies-requires

@@ -1,7 +1,7 @@
 use Rattle.std.proofs.Common.{◌≡◌, ◌++◌, map, drop}
-use Rattle.pz_syntax.specs.ClassView.{data_method_view}
-use Rattle.pz_classes.specs.Bodies.{data_body_in}
-use Rattle.pz_classes.specs.BodyView.{body_view}
+use Rattle.pz_classes_code.specs.pz_syntax.ClassView.{data_method_view}
+use Rattle.pz_classes_rules.specs.Bodies.{data_body_in}
+use Rattle.pz_classes_rules.specs.BodyView.{body_view}
 use Rattle.pz_classes.specs.devices.Surrounding.{scope_around}
 use Rattle.pz_classes.proofs.bodies.push_data_bodies.Given as goal
 

@@ -1,8 +1,8 @@
 use Rattle.std.proofs.Common.{◌∙◌, ap, false, Option, Bool}
 use Rattle.std.specs.Option.{unwrap_or}
-use Rattle.pz_syntax.specs.ClassView.{model_view}
+use Rattle.pz_classes_code.specs.pz_syntax.ClassView.{model_view}
 use Rattle.pz_classes.proofs.Gets.{got}
-use Rattle.pz_classes.proofs.Rounds.{marked}
+use Rattle.pz_classes_rules.proofs.Rounds.{marked}
 use Rattle.pz_classes.proofs.checking.breaks_c3.Goals as goal
 
 pub returns : goal.returns

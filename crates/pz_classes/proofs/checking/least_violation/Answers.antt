@@ -1,5 +1,5 @@
 use Rattle.std.proofs.Common.{arith}
-use Rattle.pz_syntax.specs.ClassView.{model_view}
+use Rattle.pz_classes_code.specs.pz_syntax.ClassView.{model_view}
 use Rattle.pz_classes.proofs.Leasts.{among_step}
 use Rattle.pz_classes.proofs.checking.least_violation.Goals as goal
 

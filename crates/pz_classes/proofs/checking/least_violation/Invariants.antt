@@ -1,6 +1,6 @@
 use Rattle.std.proofs.Common.{◌≡◌, suc, None, map, drop}
-use Rattle.pz_syntax.specs.ClassView.{decl_view, model_view}
-use Rattle.pz_classes.specs.devices.ViolationList.{among, violations}
+use Rattle.pz_classes_code.specs.pz_syntax.ClassView.{decl_view, model_view}
+use Rattle.pz_classes_rules.specs.devices.ViolationList.{among, violations}
 use Rattle.pz_check_violations.specs.Least.{least_from}
 use Rattle.pz_classes.proofs.checking.least_violation.Given as goal
 

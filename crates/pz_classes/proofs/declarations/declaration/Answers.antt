@@ -1,7 +1,7 @@
 use Rattle.std.proofs.Common.{◌≡◌, ap, ◌∙◌, ◌-◌, Option, slice_get}
 use Rattle.std.specs.Option.{option_map, option_copied}
-use Rattle.pz_syntax.specs.declared.clusters.Decl.{Decl}
-use Rattle.pz_syntax.specs.ClassView.{decl_view}
+use Rattle.pz_classes_code.specs.pz_syntax.declared.clusters.Decl.{Decl}
+use Rattle.pz_classes_code.specs.pz_syntax.ClassView.{decl_view}
 use Rattle.pz_classes.proofs.Gets.{got, declared_at}
 use Rattle.pz_classes.proofs.declarations.declaration.Goals as goal
 

@@ -1,7 +1,7 @@
 use Rattle.std.proofs.Common.{◌≡◌, [], map}
 use Rattle.std.specs.Option.{option_map_or}
-use Rattle.pz_classes.specs.Ancestors.{followed}
-use Rattle.pz_classes.specs.Methods.{nearest}
+use Rattle.pz_classes_rules.specs.Ancestors.{followed}
+use Rattle.pz_classes_rules.specs.Methods.{nearest}
 use Rattle.pz_classes.specs.devices.Rows.{row_view}
 use Rattle.pz_classes.specs.devices.Found.{up_in, start_in, start_found}
 use Rattle.pz_classes.proofs.finding.find_start.Given as goal

@@ -1,8 +1,8 @@
 use Rattle.std.proofs.Common.{◌≡◌, ◌∙◌, sym, ap, None, Some, ℕ, List}
 use Rattle.std.specs.Option.{option_map}
-use Rattle.pz_syntax.specs.ClassView.{model_view}
-use Rattle.pz_classes.specs.Numbers.{class}
-use Rattle.pz_classes.specs.Tables.{class_id}
+use Rattle.pz_classes_code.specs.pz_syntax.ClassView.{model_view}
+use Rattle.pz_classes_rules.specs.Numbers.{class}
+use Rattle.pz_classes_rules.specs.ClassNames.{class_id}
 use Rattle.pz_classes.proofs.Merely.{number_merely, below_merely}
 use Rattle.pz_classes.proofs.InstanceClasses.{id_of_none, id_of_some, unknown_has_none, known_has, known_has_none}
 use Rattle.pz_classes.proofs.instances.class_of_instance.Goals as goal

@@ -1,5 +1,5 @@
 use Rattle.std.proofs.Common.{List, sym, ◌∙◌, subst}
-use Rattle.pz_syntax.specs.ClassView.{model_view}
+use Rattle.pz_classes_code.specs.pz_syntax.ClassView.{model_view}
 use Rattle.pz_classes.specs.declared.line.End.{End}
 use Rattle.pz_classes.specs.devices.Fronts.{IsLineTo}
 use Rattle.pz_classes.proofs.Extending.{line_goes_on}

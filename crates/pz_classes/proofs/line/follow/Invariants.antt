@@ -1,4 +1,4 @@
-use Rattle.pz_syntax.specs.ClassView.{model_view}
+use Rattle.pz_classes_code.specs.pz_syntax.ClassView.{model_view}
 use Rattle.pz_classes.specs.devices.Fronts.{IsLineTo}
 use Rattle.pz_classes.proofs.line.follow.Given as goal
 

@@ -1,5 +1,5 @@
 use Rattle.std.proofs.Common.{◌≡◌, ◌++◌, take}
-use Rattle.pz_classes.specs.Members.{spelled, grouped}
+use Rattle.pz_classes_rules.specs.Members.{spelled, grouped}
 use Rattle.pz_classes.proofs.members.push_groups.Given as goal
 
 abbrev pub invariant-loop-group : goal.invariant-loop-group

@@ -1,5 +1,5 @@
 use Rattle.std.proofs.Common.{arith}
-use Rattle.pz_classes.proofs.FewMarks.{one_more_group}
+use Rattle.pz_classes_rules.proofs.FewMarks.{one_more_group}
 use Rattle.pz_classes.proofs.methods.count_names.Goals as goal
 
 pub overflow_cast-count : goal.overflow_cast-count

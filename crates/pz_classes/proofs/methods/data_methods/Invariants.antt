@@ -1,7 +1,7 @@
 use Rattle.std.proofs.Common.{◌≡◌, ◌+◌, map, drop}
 use Rattle.std.specs.Option.{option_map, option_or}
-use Rattle.pz_syntax.specs.ClassView.{data_method_view}
-use Rattle.pz_classes.specs.Methods.{Signature, data_signature, first_with, method_id}
+use Rattle.pz_classes_code.specs.pz_syntax.ClassView.{data_method_view}
+use Rattle.pz_classes_rules.specs.Methods.{Signature, data_signature, first_with, method_id}
 use Rattle.pz_classes.specs.devices.MethodIn.{method_in}
 use Rattle.pz_classes.proofs.methods.data_methods.Given as goal
 

@@ -1,4 +1,4 @@
-use Rattle.pz_classes.proofs.FewMarks.{data_methods_fit, process_methods_fit, data_inputs_fit, process_inputs_fit, process_outputs_fit}
+use Rattle.pz_classes_rules.proofs.FewMarks.{data_methods_fit, process_methods_fit, data_inputs_fit, process_inputs_fit, process_outputs_fit}
 use Rattle.pz_classes.proofs.methods.methods_of.Goals as goal
 
 pub data_methods-requires-clause-inputs : goal.data_methods-requires-clause-inputs

@@ -1,5 +1,5 @@
 use Rattle.std.proofs.lemmas.List.{get_or_default}
-use Rattle.pz_syntax.specs.ClassView.{model_view}
+use Rattle.pz_classes_code.specs.pz_syntax.ClassView.{model_view}
 use Rattle.pz_classes.proofs.Filling.{is_class, visit_inherits, fills_visit, counted_with}
 use Rattle.pz_classes.proofs.sharing.fill_table.Goals as goal
 

@@ -1,5 +1,5 @@
 use Rattle.std.proofs.lemmas.Result.{IfOk-weaker}
-use Rattle.pz_syntax.specs.ClassView.{model_view}
+use Rattle.pz_classes_code.specs.pz_syntax.ClassView.{model_view}
 use Rattle.pz_classes.proofs.Filling.{all_filled}
 use Rattle.pz_classes.proofs.sharing.members_of_classes.Goals as goal
 

@@ -1,6 +1,6 @@
 use Rattle.std.proofs.Common.{ap, sym, ◌∙◌}
 use Rattle.std.specs.Option.{option_map, option_copied}
-use Rattle.pz_syntax.specs.ClassView.{model_view, start_view}
+use Rattle.pz_classes_code.specs.pz_syntax.ClassView.{model_view, start_view}
 use Rattle.pz_classes_code.specs.StepView as step
 use Rattle.pz_classes.proofs.Scopes.{call_is}
 use Rattle.pz_classes.proofs.starting.start_at.Goals as goal

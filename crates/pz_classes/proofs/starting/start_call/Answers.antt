@@ -1,6 +1,6 @@
 use Rattle.std.proofs.Common.{◌≡◌, ap, ◌∙◌, [], rules}
-use Rattle.pz_syntax.specs.Statements.{call}
-use Rattle.pz_syntax.specs.ExpressionView as tree
+use Rattle.pz_classes_code.specs.pz_syntax.Statements.{call}
+use Rattle.pz_classes_code.specs.pz_syntax.ExpressionView as tree
 use Rattle.pz_classes_code.specs.CodeView as code
 use Rattle.pz_classes_code.specs.Resolution.{resolved_all}
 use Rattle.pz_classes.specs.devices.Surrounding.{scope_around}

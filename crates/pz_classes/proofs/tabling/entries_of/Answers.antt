@@ -1,7 +1,7 @@
 use Rattle.std.proofs.Common.{◌≡◌, ◌∙◌, ◌∷◌, ◌<◌, ◌+◌, suc, ap, sym, subst, List, length, map, take, arith}
 use Rattle.std.specs.Vec.Iter.{into_iter_items}
 use Rattle.std.proofs.lemmas.Option.{slice_get_within}
-use Rattle.pz_syntax.specs.ClassView.{model_view}
+use Rattle.pz_classes_code.specs.pz_syntax.ClassView.{model_view}
 use Rattle.pz_classes.specs.declared.entry.Entry.{Entry}
 use Rattle.pz_classes.specs.devices.Rows.{rows, row_view}
 use Rattle.pz_classes.proofs.Counting.{rows_step, all_rows, one_further, nothing_left}

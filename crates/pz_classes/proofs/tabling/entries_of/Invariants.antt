@@ -1,7 +1,7 @@
 use Rattle.std.proofs.Common.{◌≡◌, ◌≤◌, length, map, take, drop}
 use Rattle.std.specs.Vec.Iter.{into_iter_items, into_iter_len}
-use Rattle.pz_syntax.specs.ClassView.{model_view}
-use Rattle.pz_classes.specs.Methods.{methods_before}
+use Rattle.pz_classes_code.specs.pz_syntax.ClassView.{model_view}
+use Rattle.pz_classes_rules.specs.Methods.{methods_before}
 use Rattle.pz_classes.specs.devices.Rows.{rows, row_view}
 use Rattle.pz_classes.proofs.tabling.entries_of.Given as goal
 

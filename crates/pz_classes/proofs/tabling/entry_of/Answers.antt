@@ -1,8 +1,8 @@
 use Rattle.std.proofs.Common.{◌∙◌, arith}
 use Rattle.std.proofs.lemmas.List.{length-map}
-use Rattle.pz_syntax.specs.ClassView.{decl_view, model_view}
+use Rattle.pz_classes_code.specs.pz_syntax.ClassView.{decl_view, model_view}
 use Rattle.pz_classes.proofs.Entries.{row_is}
-use Rattle.pz_classes.proofs.FewMarks.{members_fit}
+use Rattle.pz_classes.proofs.FewMembers.{members_fit}
 use Rattle.pz_classes.proofs.tabling.entry_of.Goals as goal
 
 pub returns-clause-row : goal.returns-clause-row

@@ -1,12 +1,12 @@
 use Rattle.std.proofs.Common.{◌≡◌, ap, sym, subst, ℕ, [], Option, arith}
 use Rattle.std.specs.Option.{option_map_or}
 use Rattle.std.proofs.lemmas.Result.{IfOk-weaker}
-use Rattle.pz_syntax.specs.Classes.{DeclTree}
-use Rattle.pz_syntax.specs.ClassView.{decl_view, model_view}
-use Rattle.pz_classes.specs.Numbers.{declaration}
-use Rattle.pz_classes.specs.Methods.{signatures}
+use Rattle.pz_classes_code.specs.pz_syntax.Classes.{DeclTree}
+use Rattle.pz_classes_code.specs.pz_syntax.ClassView.{decl_view, model_view}
+use Rattle.pz_classes_rules.specs.Numbers.{declaration}
+use Rattle.pz_classes_rules.specs.Methods.{signatures}
 use Rattle.pz_classes.specs.devices.MethodIn.{HasMethods, HasMethodsOf}
-use Rattle.pz_classes.proofs.FewMarks.{numbers_fit, decl_fits}
+use Rattle.pz_classes_rules.proofs.FewMarks.{numbers_fit, decl_fits}
 use Rattle.pz_classes.proofs.Numbered.{declares}
 use Rattle.pz_classes.proofs.tabling.methods_at.Goals as goal
 

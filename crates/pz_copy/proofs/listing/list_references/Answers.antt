@@ -1,5 +1,5 @@
 use Rattle.std.proofs.Common.{◌≡◌, refl, sym, ◌∙◌, ap, ℕ, List, [], ◌∷◌, take, length, get_or, ◌+◌, ◌<◌}
-use Rattle.pz_value.specs.declared.value.Value.{Value}
+use Rattle.pz_state.specs.pz_value.declared.value.Value.{Value}
 use Rattle.pz_copy.specs.References.{reference_of, references}
 use Rattle.pz_copy.specs.devices.Gathering.{gathered}
 use Rattle.pz_copy.proofs.Gathered.{gathered_append}

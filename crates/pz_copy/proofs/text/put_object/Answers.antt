@@ -1,5 +1,5 @@
 use Rattle.std.proofs.Common.{ap, ◌∙◌}
-use Rattle.pz_value.specs.declared.value.ClassId.{ClassId}
+use Rattle.pz_state.specs.pz_value.declared.value.ClassId.{ClassId}
 use Rattle.pz_copy.specs.ParcelText.{name_of}
 use Rattle.pz_copy.proofs.Texts.{object_done}
 use Rattle.pz_copy.proofs.text.put_object.Goals as goal

@@ -1,6 +1,6 @@
 use Rattle.std.proofs.Common.{◌≡◌, ◌∙◌, ap, ◌++◌, ◌∷◌, List, take, arith}
 use Rattle.std.specs.List.{flat_map}
-use Rattle.pz_value.specs.declared.value.Value.{Value}
+use Rattle.pz_state.specs.pz_value.declared.value.Value.{Value}
 use Rattle.pz_copy.specs.ParcelText.{value_text}
 use Rattle.pz_copy.proofs.Texts.{values_done, values_whole}
 use Rattle.pz_copy.proofs.text.put_values.Goals as goal

@@ -1,5 +1,5 @@
 use Rattle.std.proofs.Common.{◌≡◌, ap, ◌<◌, ◌^◌, List, length, arith}
-use Rattle.pz_value.specs.declared.value.Value.{Value}
+use Rattle.pz_state.specs.pz_value.declared.value.Value.{Value}
 use Rattle.pz_copy.proofs.Steps.{plain_all}
 use Rattle.pz_copy.proofs.unpacking.make_objects.Goals as goal
 

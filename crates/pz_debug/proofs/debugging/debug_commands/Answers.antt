@@ -1,7 +1,7 @@
 use Rattle.std.proofs.Common.{ℕ, Err, ap, refl}
 use Rattle.std.specs.Prelude.{Vec}
 use Rattle.std.specs.declared.alloc.Global.{Global}
-use Rattle.pz_classes.specs.CheckedView.{checked_model}
+use Rattle.pz_bind.specs.pz_classes.CheckedView.{checked_model}
 use Rattle.pz_debug.specs.Files.{command_file}
 use Rattle.pz_debug.specs.Output.{PrintsSession}
 use Rattle.pz_debug.specs.devices.Reading.{whole}

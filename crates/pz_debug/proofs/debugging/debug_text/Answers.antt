@@ -1,5 +1,5 @@
 use Rattle.std.proofs.Common.{refl}
-use Rattle.pz_classes.specs.CheckedView.{checked_model}
+use Rattle.pz_bind.specs.pz_classes.CheckedView.{checked_model}
 use Rattle.pz_debug.specs.devices.Debugging.{refuses, goes_on}
 use Rattle.pz_debug.proofs.TwoFiles.{closed_said}
 use Rattle.pz_debug.proofs.debugging.debug_text.Goals as goal

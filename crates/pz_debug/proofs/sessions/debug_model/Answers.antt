@@ -1,5 +1,5 @@
 use Rattle.std.proofs.Common.{inr}
-use Rattle.pz_classes.specs.CheckedView.{checked_model}
+use Rattle.pz_bind.specs.pz_classes.CheckedView.{checked_model}
 use Rattle.pz_debug_session.specs.Sessions.{steps_in, stands_in}
 use Rattle.pz_debug.specs.Output.{setting_for, PrintsSession}
 use Rattle.pz_debug.proofs.Sayings.{nothing}

@@ -1,4 +1,4 @@
-use Rattle.pz_term_simulator.specs.Simulations.{setting_in}
+use Rattle.pz_sim.specs.pz_term_simulator.Simulations.{setting_in}
 use Rattle.pz_debug_session.specs.Sessions.{stands_in}
 use Rattle.pz_debug.proofs.Started.{says_whole, says_halted}
 use Rattle.pz_debug.proofs.sessions.debug_session.Goals as goal

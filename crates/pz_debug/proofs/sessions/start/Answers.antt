@@ -1,9 +1,9 @@
 use Rattle.std.proofs.Common.{subst}
 use Rattle.std.proofs.lemmas.Result.{IfOk-weaker}
-use Rattle.pz_classes.specs.CheckedView.{checked_model}
-use Rattle.pz_rules.specs.declared.limits.Limits.{Limits}
+use Rattle.pz_bind.specs.pz_classes.CheckedView.{checked_model}
+use Rattle.pz_term_processes.specs.pz_rules.declared.limits.Limits.{Limits}
 use Rattle.pz_term_processes.specs.Standing.{setting_of}
-use Rattle.pz_term_simulator.specs.Simulations.{Starts}
+use Rattle.pz_sim.specs.pz_term_simulator.Simulations.{Starts}
 use Rattle.pz_debug_session.specs.Sessions.{stands_in}
 use Rattle.pz_debug.specs.Output.{setting_for}
 use Rattle.pz_debug.proofs.sessions.start.Goals as goal

@@ -1,5 +1,5 @@
 use Rattle.std.proofs.Common.{◌≡◌, ◌<◌, ℕ}
-use Rattle.pz_syntax.specs.Classes.{ModelTree}
+use Rattle.pz_classes_code.specs.pz_syntax.Classes.{ModelTree}
 use Rattle.pz_bind.specs.devices.Nets.{IsNet}
 use Rattle.pz_trace.specs.Labels.{path_of}
 use Rattle.pz_debug_replies.proofs.names.find_process.Given as goal

@@ -1,5 +1,5 @@
 use Rattle.std.proofs.Common.{length}
-use Rattle.pz_bind.specs.Nest.{processes}
+use Rattle.pz_rules.specs.pz_bind_rules.Nest.{processes}
 use Rattle.pz_debug_replies.proofs.Searched.{number_merely}
 use Rattle.pz_debug_replies.proofs.names.process_count.Goals as goal
 

@@ -1,7 +1,7 @@
 use Rattle.std.proofs.Common.{sym, subst}
-use Rattle.pz_syntax.specs.Classes.{ModelTree}
+use Rattle.pz_classes_code.specs.pz_syntax.Classes.{ModelTree}
 use Rattle.pz_bind.specs.devices.Nets.{IsNet}
-use Rattle.pz_classes.specs.CheckedView.{checked_model}
+use Rattle.pz_bind.specs.pz_classes.CheckedView.{checked_model}
 use Rattle.pz_term_simulator.specs.Simulations.{model_in}
 use Rattle.pz_debug_session.specs.Sessions.{stands_in}
 use Rattle.pz_debug_replies.proofs.Searched.{process_stands, is_there, is_none}

@@ -1,5 +1,5 @@
 use Rattle.std.proofs.Common.{refl, ap, ◌∙◌}
-use Rattle.pz_syntax.specs.Classes.{ModelTree}
+use Rattle.pz_classes_code.specs.pz_syntax.Classes.{ModelTree}
 use Rattle.pz_debug_replies.specs.Lines.{show_line}
 use Rattle.pz_debug_session.specs.Sessions.{stands_in, steps_in}
 use Rattle.pz_debug_commands.specs.Commands.{show}

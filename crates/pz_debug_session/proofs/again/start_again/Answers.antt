@@ -1,6 +1,6 @@
 use Rattle.std.proofs.Common.{subst, ◌∙◌}
 use Rattle.std.proofs.lemmas.Result.{IfOk-weaker}
-use Rattle.pz_classes.specs.CheckedView.{checked_model}
+use Rattle.pz_bind.specs.pz_classes.CheckedView.{checked_model}
 use Rattle.pz_rules.specs.Settings.{Setting}
 use Rattle.pz_term_processes.specs.Standing.{setting_of}
 use Rattle.pz_term_simulator.specs.Simulations.{Starts, setting_in}

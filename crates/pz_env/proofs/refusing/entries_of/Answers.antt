@@ -2,7 +2,7 @@ use Rattle.std.proofs.Common.{◌≡◌, ◌≤◌, ◌-◌, length, arith, ap, 
 use Rattle.std.proofs.Math.Logic.{∥∥₁_elim}
 use Rattle.std.specs.Coded.{coded_ℕ}
 use base.Stored.{Coded-set}
-use Rattle.pz_env_script.specs.declared.entry.Entry.{Entry}
+use Rattle.pz_env_tree.specs.pz_env_script.declared.entry.Entry.{Entry}
 use Rattle.pz_env.proofs.refusing.entries_of.Goals as goal
 
 pub returns-clause-few : goal.returns-clause-few

@@ -2,7 +2,7 @@ use Rattle.std.proofs.Common.{◌≡◌, drop}
 use Rattle.std.specs.List.{list_any, flat_map}
 use Rattle.pz_syntax.specs.ClassView.{decl_view, model_view}
 use Rattle.std.proofs.Common.{map}
-use Rattle.pz_classes.specs.SizeRules.{system_of, system_size}
+use Rattle.pz_classes.specs.pz_classes_rules.SizeRules.{system_of, system_size}
 use Rattle.pz_env.specs.devices.Counting.{is_above}
 use Rattle.pz_env.proofs.room.has_large_system.Given as goal
 

@@ -1,7 +1,7 @@
 use Rattle.std.proofs.Common.{ap, ◌∙◌, ◌||◌, List, arith}
 use Rattle.std.specs.List.{list_any}
 use Rattle.pz_syntax.specs.declared.clusters.ChannelEnd.{ChannelEnd}
-use Rattle.pz_bind.specs.Connections.{is_inner}
+use Rattle.pz_env_tree.specs.pz_bind_rules.Connections.{is_inner}
 use Rattle.pz_env.specs.devices.Ends.{ends_in, has_end}
 use Rattle.pz_env.specs.devices.Standing.{is_in_channel}
 use Rattle.pz_env.proofs.Sets.{any_step, any_done}

@@ -1,5 +1,5 @@
 use Rattle.std.proofs.Common.{arith}
-use Rattle.pz_bind.specs.Connections.{is_inner}
+use Rattle.pz_env_tree.specs.pz_bind_rules.Connections.{is_inner}
 use Rattle.pz_env.proofs.Sets.{any_step, any_done}
 use Rattle.pz_env.proofs.standing.add_ends.Goals as goal
 

@@ -1,6 +1,6 @@
 use Rattle.std.proofs.Common.{◌≡◌, ◌||◌, drop}
 use Rattle.std.specs.List.{list_any}
-use Rattle.pz_bind.specs.Connections.{is_inner}
+use Rattle.pz_env_tree.specs.pz_bind_rules.Connections.{is_inner}
 use Rattle.pz_env.specs.devices.Ends.{Named, ends_in, has_end}
 use Rattle.pz_env.proofs.standing.add_ends.Given as goal
 

@@ -2,7 +2,7 @@ use Rattle.std.proofs.Common.{sym, ap, ◌∙◌, [], Option}
 use Rattle.std.specs.Option.{option_map_or}
 use Rattle.pz_syntax.specs.Classes.{DeclTree}
 use Rattle.pz_syntax.specs.ClassView.{model_view}
-use Rattle.pz_classes.specs.Instances.{instances}
+use Rattle.pz_classes.specs.pz_classes_rules.Instances.{instances}
 use Rattle.pz_env.proofs.Sets.{first_is}
 use Rattle.pz_env.proofs.standing.system_instances.Goals as goal
 

@@ -1,6 +1,6 @@
 use Rattle.std.proofs.Common.{◌<◌, ◌^◌, List, length, arith}
-use Rattle.pz_env_script.specs.declared.entry.Entry.{Entry}
-use Rattle.pz_env_script.specs.Scripts.{IsWritten}
+use Rattle.pz_env_mimics.specs.pz_env_script.declared.entry.Entry.{Entry}
+use Rattle.pz_env_mimics.specs.pz_env_script.Scripts.{IsWritten}
 use Rattle.pz_env_joined.proofs.laws.closed_tree_closes.Goals as goal
 
 -- a written script has at most 100,000 lines

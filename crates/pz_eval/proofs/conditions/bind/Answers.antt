@@ -1,11 +1,11 @@
 use Rattle.std.proofs.Common.{◌+◌, List, length, sym, ap, subst, ◌∙◌, arith}
 use Rattle.std.specs.Prelude.{All}
-use Rattle.pz_value.specs.declared.value.Value.{Value}
+use Rattle.pz_classes_code.specs.pz_value.declared.value.Value.{Value}
 use Rattle.pz_copy.specs.declared.unpacking.UnpackError.TheVariants.{StoreFull}
 use Rattle.pz_copy.specs.Unpacking.{unpacked, unpacked_values}
-use Rattle.pz_state.specs.Marks.{Seen}
-use Rattle.pz_state.specs.References.{RefersWithin}
-use Rattle.pz_state.specs.States.{object_limit}
+use Rattle.pz_copy.specs.pz_state.Marks.{Seen}
+use Rattle.pz_copy.specs.pz_state.References.{RefersWithin}
+use Rattle.pz_copy.specs.pz_state.States.{object_limit}
 use Rattle.pz_eval.proofs.Parceling.{bound_changed, on_ok_map, fits_of, not_full_of, same_error}
 use Rattle.pz_eval_machine.proofs.Unwinding.{on_ok}
 use Rattle.pz_eval.proofs.conditions.bind.Goals as goal

@@ -2,8 +2,8 @@ use Rattle.std.proofs.Common.{Err, ap, subst, ◌∙◌}
 use Rattle.std.proofs.lemmas.Result.{IfOk-weaker}
 use Rattle.pz_classes_code.specs.CodeView.{view}
 use Rattle.pz_copy.specs.declared.unpacking.UnpackError.{UnpackError}
-use Rattle.pz_state.specs.States.{StateView}
-use Rattle.pz_state.specs.Marks.{Seen}
+use Rattle.pz_copy.specs.pz_state.States.{StateView}
+use Rattle.pz_copy.specs.pz_state.Marks.{Seen}
 use Rattle.pz_eval.specs.Tentative.{WouldFind}
 use Rattle.pz_eval.specs.Conditions.{asked, full}
 use Rattle.pz_eval.proofs.conditions.condition_of.Goals as goal

@@ -1,8 +1,8 @@
 use Rattle.std.proofs.Common.{ap, subst}
 use Rattle.std.specs.Prelude.{IfOk}
 use Rattle.pz_classes_code.specs.CodeView.{view}
-use Rattle.pz_state.specs.States.{StateView}
-use Rattle.pz_state.specs.Marks.{Seen}
+use Rattle.pz_copy.specs.pz_state.States.{StateView}
+use Rattle.pz_copy.specs.pz_state.Marks.{Seen}
 use Rattle.pz_eval.specs.Conditions.{FindsCondition}
 use Rattle.pz_eval.proofs.Finding.{is_latest, is_back}
 use Rattle.pz_eval.proofs.conditions.try_condition.Goals as goal

@@ -2,10 +2,10 @@ use Rattle.std.proofs.Common.{◌≡◌, Result, length, sym, ap, subst}
 use Rattle.std.specs.Prelude.{IfOk}
 use Rattle.std.proofs.lemmas.Result.{IfOk-weaker}
 use Rattle.pz_classes_code.specs.CodeView.{view}
-use Rattle.pz_state.specs.Marks.{Seen}
-use Rattle.pz_eval_rules.specs.Outcomes.{outside}
-use Rattle.pz_eval_rules.specs.devices.Outcomes.{reached_value}
-use Rattle.pz_eval_operations.specs.declared.stop.Stop.{Stop}
+use Rattle.pz_copy.specs.pz_state.Marks.{Seen}
+use Rattle.pz_eval_machine.specs.pz_eval_rules.Outcomes.{outside}
+use Rattle.pz_eval_machine.specs.pz_eval_rules.devices.Outcomes.{reached_value}
+use Rattle.pz_eval_machine.specs.pz_eval_operations.declared.stop.Stop.{Stop}
 use Rattle.pz_eval_machine.specs.declared.control.Finish.{Finish}
 use Rattle.pz_eval_machine.specs.devices.Within.{FinishWithin}
 use Rattle.pz_eval.specs.Promises.{NamesWithin}

@@ -1,12 +1,12 @@
 use Rattle.std.proofs.Common.{◌≡◌, List, Result, Ok, Err, length, sym, ap, subst}
 use Rattle.std.specs.Prelude.{All, IfOk}
 use Rattle.std.proofs.lemmas.Result.{IfOk-weaker}
-use Rattle.pz_value.specs.declared.value.Value.{Value}
+use Rattle.pz_classes_code.specs.pz_value.declared.value.Value.{Value}
 use Rattle.pz_classes_code.specs.CodeView.{list_view}
-use Rattle.pz_state.specs.Marks.{Seen}
-use Rattle.pz_state.specs.References.{RefersWithin}
-use Rattle.pz_eval_rules.specs.devices.Outcomes.{reached_list}
-use Rattle.pz_eval_operations.specs.declared.stop.Stop.{Stop}
+use Rattle.pz_copy.specs.pz_state.Marks.{Seen}
+use Rattle.pz_copy.specs.pz_state.References.{RefersWithin}
+use Rattle.pz_eval_machine.specs.pz_eval_rules.devices.Outcomes.{reached_list}
+use Rattle.pz_eval_machine.specs.pz_eval_operations.declared.stop.Stop.{Stop}
 use Rattle.pz_eval.proofs.Finding.{values_found, list_stop_found, gathers_is, is_latest, is_back, marks_kept, stop_within_all, same_kept_all, on_err}
 use Rattle.pz_eval.proofs.evaluating.eval_list.Goals as goal
 

@@ -1,9 +1,9 @@
 use Rattle.std.proofs.Common.{refl, ap}
 use Rattle.std.proofs.lemmas.Result.{IfOk-weaker}
 use Rattle.pz_classes_code.specs.CodeView.{view}
-use Rattle.pz_state.specs.Marks.{Seen}
-use Rattle.pz_eval_rules.specs.Outcomes.{outside}
-use Rattle.pz_eval_rules.specs.devices.Outcomes.{reached_value}
+use Rattle.pz_copy.specs.pz_state.Marks.{Seen}
+use Rattle.pz_eval_machine.specs.pz_eval_rules.Outcomes.{outside}
+use Rattle.pz_eval_machine.specs.pz_eval_rules.devices.Outcomes.{reached_value}
 use Rattle.pz_eval.proofs.Gathering.{finish_is, stop_is}
 use Rattle.pz_eval.proofs.Finding.{value_found, stop_found, is_latest, is_back}
 use Rattle.pz_eval.proofs.evaluating.try_eval.Goals as goal

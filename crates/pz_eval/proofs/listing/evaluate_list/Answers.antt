@@ -1,13 +1,13 @@
 use Rattle.std.proofs.Common.{◌≡◌, List, [], Result, Ok, length, refl, sym, ap, subst, ◌∙◌, arith}
 use Rattle.std.specs.Prelude.{All, IfOk}
 use Rattle.std.proofs.lemmas.List.Elements.{All-nil, All-cons}
-use Rattle.pz_value.specs.declared.value.Value.{Value}
+use Rattle.pz_classes_code.specs.pz_value.declared.value.Value.{Value}
 use Rattle.pz_classes_code.specs.CodeView.{view, list_view}
-use Rattle.pz_state.specs.References.{RefersWithin}
-use Rattle.pz_eval_rules.specs.Memories.{in_process}
-use Rattle.pz_eval_rules.specs.Outcomes.{outside}
-use Rattle.pz_eval_rules.specs.devices.Computed.{arguments, evaluated}
-use Rattle.pz_eval_operations.specs.declared.stop.Stop.{Stop}
+use Rattle.pz_copy.specs.pz_state.References.{RefersWithin}
+use Rattle.pz_eval_machine.specs.pz_eval_rules.Memories.{in_process}
+use Rattle.pz_eval_machine.specs.pz_eval_rules.Outcomes.{outside}
+use Rattle.pz_eval_machine.specs.pz_eval_rules.devices.Computed.{arguments, evaluated}
+use Rattle.pz_eval_machine.specs.pz_eval_operations.declared.stop.Stop.{Stop}
 use Rattle.pz_eval_machine.specs.declared.control.Finish.{Finish}
 use Rattle.pz_eval_machine.specs.declared.control.Finish.TheVariants as finish
 use Rattle.pz_eval_machine.specs.devices.Within.{FinishWithin}

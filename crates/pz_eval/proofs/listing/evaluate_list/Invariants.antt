@@ -1,12 +1,12 @@
 use Rattle.std.proofs.Common.{◌≡◌, [], length, drop}
 use Rattle.std.specs.Prelude.{All}
-use Rattle.pz_syntax.specs.Classes.{ModelTree}
+use Rattle.pz_classes_code.specs.pz_syntax.Classes.{ModelTree}
 use Rattle.pz_classes_code.specs.CodeView.{list_view}
-use Rattle.pz_state.specs.References.{RefersWithin}
-use Rattle.pz_classes.specs.devices.Rows.{AreClasses}
-use Rattle.pz_eval_rules.specs.Memories.{in_process}
-use Rattle.pz_eval_rules.specs.Outcomes.{outside}
-use Rattle.pz_eval_rules.specs.devices.Computed.{arguments, evaluated}
+use Rattle.pz_copy.specs.pz_state.References.{RefersWithin}
+use Rattle.pz_eval_machine.specs.pz_classes.devices.Rows.{AreClasses}
+use Rattle.pz_eval_machine.specs.pz_eval_rules.Memories.{in_process}
+use Rattle.pz_eval_machine.specs.pz_eval_rules.Outcomes.{outside}
+use Rattle.pz_eval_machine.specs.pz_eval_rules.devices.Computed.{arguments, evaluated}
 use Rattle.pz_eval.proofs.listing.evaluate_list.Given as goal
 
 abbrev pub invariant-loop-code : goal.invariant-loop-code

@@ -1,10 +1,10 @@
 use Rattle.std.proofs.Common.{List, Ok, length, sym, ap, subst, ◌∙◌}
 use Rattle.std.specs.Prelude.{All}
-use Rattle.pz_value.specs.declared.value.Value.{Value}
+use Rattle.pz_classes_code.specs.pz_value.declared.value.Value.{Value}
 use Rattle.pz_classes_code.specs.CodeView.{list_view}
-use Rattle.pz_state.specs.References.{RefersWithin}
-use Rattle.pz_eval_rules.specs.declared.outcome.Listed.{Listed}
-use Rattle.pz_eval_rules.specs.declared.outcome.Listed.TheVariants as listed
+use Rattle.pz_copy.specs.pz_state.References.{RefersWithin}
+use Rattle.pz_eval_machine.specs.pz_eval_rules.declared.outcome.Listed.{Listed}
+use Rattle.pz_eval_machine.specs.pz_eval_rules.declared.outcome.Listed.TheVariants as listed
 use Rattle.pz_eval.specs.Parcels.{no_values, too_much}
 use Rattle.pz_eval.proofs.Parceling.{listed_within, found_listed, found_parcel}
 use Rattle.pz_eval.proofs.parcels.parcel_of.Goals as goal

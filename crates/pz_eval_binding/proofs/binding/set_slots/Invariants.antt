@@ -1,6 +1,6 @@
 use Rattle.std.proofs.Common.{◌≡◌, length, drop}
 use Rattle.std.specs.List.{All}
-use Rattle.pz_state.specs.References.{RefersWithin}
+use Rattle.pz_copy.specs.pz_state.References.{RefersWithin}
 use Rattle.pz_eval_binding.specs.Binding.{set_slots}
 use Rattle.pz_eval_binding.proofs.binding.set_slots.Given as goal
 

@@ -1,7 +1,7 @@
 use Rattle.std.proofs.Common.{◌≡◌, List, length, ap, arith}
-use Rattle.pz_value.specs.declared.value.Value.{Value}
-use Rattle.pz_state.specs.States.{StateView, locals}
-use Rattle.pz_state.specs.Marks.{changed}
+use Rattle.pz_classes_code.specs.pz_value.declared.value.Value.{Value}
+use Rattle.pz_copy.specs.pz_state.States.{StateView, locals}
+use Rattle.pz_copy.specs.pz_state.Marks.{changed}
 use Rattle.pz_eval_binding.proofs.Absent.{no_local}
 use Rattle.pz_eval_binding.proofs.writing.write_local.Goals as goal
 

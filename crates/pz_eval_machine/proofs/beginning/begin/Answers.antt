@@ -1,6 +1,6 @@
 use Rattle.std.proofs.Common.{ap, arith}
 use Rattle.pz_classes_code.specs.CodeView.{view}
-use Rattle.pz_eval_rules.specs.devices.Computed.{and_then}
+use Rattle.pz_eval_operations.specs.pz_eval_rules.devices.Computed.{and_then}
 use Rattle.pz_eval_operations.specs.devices.Sites.{place_of, memory_at}
 use Rattle.pz_eval_machine.specs.devices.Tasks.{pending, meant}
 use Rattle.pz_eval_machine.proofs.Going.{goes_same}

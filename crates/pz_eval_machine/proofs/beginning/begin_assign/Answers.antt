@@ -1,12 +1,12 @@
 use Rattle.std.proofs.Common.{length}
 use Rattle.std.proofs.lemmas.Result.{IfOk-weaker}
 use Rattle.pz_classes_code.specs.CodeView.{view}
-use Rattle.pz_eval_rules.specs.devices.Computed.{done, evaluated}
+use Rattle.pz_eval_operations.specs.pz_eval_rules.devices.Computed.{done, evaluated}
 use Rattle.pz_eval_operations.specs.devices.Sites.{place_of, memory_at, memory_of}
 use Rattle.pz_eval_machine.specs.devices.Tasks.{pending, meant, coming}
 use Rattle.pz_eval_machine.proofs.Going.{goes_same}
-use Rattle.pz_eval_rules.specs.Memories.{write}
-use Rattle.pz_eval_rules.specs.Answers.{gives}
+use Rattle.pz_eval_operations.specs.pz_eval_rules.Memories.{write}
+use Rattle.pz_eval_operations.specs.pz_eval_rules.Answers.{gives}
 use Rattle.pz_eval_machine.proofs.AtOnce.{found_counted, waits_counted, fewer, one_fewer}
 use Rattle.pz_eval_machine.proofs.beginning.begin_assign.Goals as goal
 

@@ -1,7 +1,7 @@
 use Rattle.std.proofs.Common.{◌+◌, length, inr, arith}
 use Rattle.std.proofs.lemmas.Result.{IfOk-weaker}
 use Rattle.pz_classes_code.specs.CodeView.{view}
-use Rattle.pz_eval_rules.specs.devices.Computed.{operators, evaluated}
+use Rattle.pz_eval_operations.specs.pz_eval_rules.devices.Computed.{operators, evaluated}
 use Rattle.pz_eval_operations.specs.devices.Sites.{place_of, memory_at, memory_of}
 use Rattle.pz_eval_operations.specs.devices.Views.{links_view}
 use Rattle.pz_eval_machine.specs.devices.Tasks.{pending, meant, coming}

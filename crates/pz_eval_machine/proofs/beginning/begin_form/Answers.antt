@@ -1,10 +1,10 @@
 use Rattle.std.proofs.Common.{ap, subst, ◌∙◌, List, length, Option}
-use Rattle.pz_value.specs.declared.value.Value.{Value}
-use Rattle.pz_eval_rules.specs.Memories.{read}
-use Rattle.pz_eval_rules.specs.Answers.{gives}
+use Rattle.pz_classes_code.specs.pz_value.declared.value.Value.{Value}
+use Rattle.pz_eval_operations.specs.pz_eval_rules.Memories.{read}
+use Rattle.pz_eval_operations.specs.pz_eval_rules.Answers.{gives}
 use Rattle.pz_eval_machine.specs.devices.Steps.{Goes}
 use Rattle.std.proofs.lemmas.Result.{IfOk-weaker}
-use Rattle.pz_eval_rules.specs.devices.Computed.{done, and_then, tick}
+use Rattle.pz_eval_operations.specs.pz_eval_rules.devices.Computed.{done, and_then, tick}
 use Rattle.pz_eval_operations.specs.devices.Sites.{place_of, locals_at, memory_at}
 use Rattle.pz_eval_machine.specs.devices.Tasks.{pending, meant, coming}
 use Rattle.pz_eval_machine.proofs.Going.{goes_same}

@@ -1,12 +1,12 @@
 use Rattle.std.proofs.Common.{length}
 use Rattle.std.proofs.lemmas.Result.{IfOk-weaker}
 use Rattle.pz_classes_code.specs.CodeView.{view, list_view, part_view}
-use Rattle.pz_eval_rules.specs.devices.Computed.{tested, sequence, evaluated}
+use Rattle.pz_eval_operations.specs.pz_eval_rules.devices.Computed.{tested, sequence, evaluated}
 use Rattle.pz_eval_operations.specs.devices.Sites.{place_of, memory_at, memory_of}
 use Rattle.pz_eval_machine.specs.devices.Tasks.{pending, meant}
 use Rattle.pz_eval_machine.proofs.Going.{goes_same}
-use Rattle.pz_value.specs.declared.value.Value.TheVariants.{Nil}
-use Rattle.pz_eval_rules.specs.Steps.{truth, chosen}
+use Rattle.pz_classes_code.specs.pz_value.declared.value.Value.TheVariants.{Nil}
+use Rattle.pz_eval_operations.specs.pz_eval_rules.Steps.{truth, chosen}
 use Rattle.pz_eval_machine.proofs.AtOnce.{found_counted, waits_counted, fewer, one_fewer}
 use Rattle.pz_eval_machine.proofs.beginning.begin_if.Goals as goal
 

@@ -1,11 +1,11 @@
 use Rattle.std.proofs.Common.{length, arith}
 use Rattle.std.proofs.lemmas.Result.{IfOk-weaker}
 use Rattle.pz_classes_code.specs.CodeView.{view}
-use Rattle.pz_eval_rules.specs.devices.Computed.{done, evaluated}
+use Rattle.pz_eval_operations.specs.pz_eval_rules.devices.Computed.{done, evaluated}
 use Rattle.pz_eval_operations.specs.devices.Sites.{place_of, memory_at, memory_of}
 use Rattle.pz_eval_machine.specs.devices.Tasks.{pending, meant}
 use Rattle.pz_eval_machine.proofs.Going.{goes_same}
-use Rattle.pz_eval_rules.specs.Answers.{ends, stops}
+use Rattle.pz_eval_operations.specs.pz_eval_rules.Answers.{ends, stops}
 use Rattle.pz_eval_machine.proofs.AtOnce.{found_counted, waits_counted, one_fewer}
 use Rattle.pz_eval_machine.proofs.beginning.begin_return.Goals as goal
 

@@ -1,4 +1,4 @@
-use Rattle.pz_eval_rules.specs.Steps.{created}
+use Rattle.pz_eval_operations.specs.pz_eval_rules.Steps.{created}
 use Rattle.pz_eval_machine.proofs.Going.{given_goes}
 use Rattle.pz_eval_machine.proofs.beginning.give_new.Goals as goal
 

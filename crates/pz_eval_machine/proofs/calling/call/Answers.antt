@@ -2,9 +2,9 @@ use Rattle.std.proofs.Common.{◌≡◌, ap, sym, subst, ◌∙◌, List, []}
 use Rattle.std.specs.Prelude.{All}
 use Rattle.std.proofs.lemmas.Result.{IfOk-weaker}
 use Rattle.std.proofs.lemmas.List.Elements.{All-nil}
-use Rattle.pz_value.specs.declared.value.Value.TheVariants.{Nil}
+use Rattle.pz_classes_code.specs.pz_value.declared.value.Value.TheVariants.{Nil}
 use Rattle.pz_classes_code.specs.CodeView.{list_view}
-use Rattle.pz_eval_rules.specs.devices.Computed.{and_then, sequence, evaluated}
+use Rattle.pz_eval_operations.specs.pz_eval_rules.devices.Computed.{and_then, sequence, evaluated}
 use Rattle.pz_eval_operations.specs.declared.task.Task.{Task}
 use Rattle.pz_eval_operations.specs.declared.task.Task.TheVariants as task
 use Rattle.pz_eval_operations.specs.declared.task.Activation.{Activation}

@@ -1,11 +1,11 @@
 use Rattle.std.proofs.Common.{◌≡◌, ap, sym, subst, ◌∙◌, ℕ, Ok, length, arith}
 use Rattle.std.specs.Prelude.{All}
 use Rattle.std.proofs.lemmas.Result.{IfOk-weaker}
-use Rattle.pz_value.specs.declared.value.Value.{Value}
+use Rattle.pz_classes_code.specs.pz_value.declared.value.Value.{Value}
 use Rattle.pz_classes_code.specs.CodeView.{list_view}
 use Rattle.pz_state.specs.Marks.{Seen}
-use Rattle.pz_eval_rules.specs.Steps.{reply, runs}
-use Rattle.pz_eval_rules.specs.devices.Computed.{Reached, and_then, replied, selectors, evaluated}
+use Rattle.pz_eval_operations.specs.pz_eval_rules.Steps.{reply, runs}
+use Rattle.pz_eval_operations.specs.pz_eval_rules.devices.Computed.{Reached, and_then, replied, selectors, evaluated}
 use Rattle.pz_eval_operations.specs.declared.replying.Reply.{Reply as Got}
 use Rattle.pz_eval_operations.specs.declared.replying.Reply.TheVariants as got
 use Rattle.pz_eval_operations.specs.declared.task.Site.{Site}

@@ -1,7 +1,7 @@
 use Rattle.std.proofs.Common.{ap, sym}
-use Rattle.pz_value.specs.declared.value.Value.{Value}
-use Rattle.pz_eval_rules.specs.Steps.{reply}
-use Rattle.pz_eval_rules.specs.devices.Computed.{Reached, and_then, replied, selectors, evaluated}
+use Rattle.pz_classes_code.specs.pz_value.declared.value.Value.{Value}
+use Rattle.pz_eval_operations.specs.pz_eval_rules.Steps.{reply}
+use Rattle.pz_eval_operations.specs.pz_eval_rules.devices.Computed.{Reached, and_then, replied, selectors, evaluated}
 use Rattle.pz_eval_operations.specs.devices.Sites.{place_of, memory_at}
 use Rattle.pz_eval_operations.specs.devices.Views.{sendings_view}
 use Rattle.pz_eval_machine.specs.devices.Tasks.{pending, coming, unwound}

@@ -1,6 +1,6 @@
 use Rattle.std.proofs.Common.{ap, ◌∙◌, subst, arith, ℤ, Option, Some, None}
 use Rattle.std.specs.Prelude.{option_map}
-use Rattle.pz_value.specs.declared.value.Value.TheVariants.{Int}
+use Rattle.pz_classes_code.specs.pz_value.declared.value.Value.TheVariants.{Int}
 use Rattle.pz_classes_code.specs.CodeView.{view}
 use Rattle.pz_eval_operations.specs.devices.AtOnce.{Assigned}
 use Rattle.pz_eval_operations.specs.devices.Sites.{place_of, memory_of}

@@ -1,9 +1,9 @@
 use Rattle.std.proofs.Common.{◌≡◌, ◌≤◌, ℕ, length}
-use Rattle.pz_syntax.specs.Classes.{ModelTree}
-use Rattle.pz_value.specs.declared.value.Value.{Value}
-use Rattle.pz_value.specs.declared.value.Value.TheVariants.{Nil}
+use Rattle.pz_classes_code.specs.pz_syntax.Classes.{ModelTree}
+use Rattle.pz_classes_code.specs.pz_value.declared.value.Value.{Value}
+use Rattle.pz_classes_code.specs.pz_value.declared.value.Value.TheVariants.{Nil}
 use Rattle.pz_classes_code.specs.CodeView.{list_view}
-use Rattle.pz_eval_rules.specs.devices.Computed.{Computation, and_then, sequence, evaluated}
+use Rattle.pz_eval_operations.specs.pz_eval_rules.devices.Computed.{Computation, and_then, sequence, evaluated}
 use Rattle.pz_eval_operations.specs.devices.Sites.{place_of, memory_of}
 use Rattle.pz_eval_operations.specs.devices.Within.{ActivationWithin}
 use Rattle.pz_eval_machine.proofs.choosing.assign_numbers.Given as goal

@@ -1,8 +1,8 @@
 use Rattle.std.proofs.lemmas.Result.{IfOk-weaker}
 use Rattle.pz_classes_code.specs.CodeView.{list_view, part_view}
-use Rattle.pz_value.specs.declared.value.Value.TheVariants.{Nil}
-use Rattle.pz_eval_rules.specs.Steps.{chosen}
-use Rattle.pz_eval_rules.specs.devices.Computed.{sequence, evaluated}
+use Rattle.pz_classes_code.specs.pz_value.declared.value.Value.TheVariants.{Nil}
+use Rattle.pz_eval_operations.specs.pz_eval_rules.Steps.{chosen}
+use Rattle.pz_eval_operations.specs.pz_eval_rules.devices.Computed.{sequence, evaluated}
 use Rattle.pz_eval_machine.specs.devices.Tasks.{pending, meant}
 use Rattle.pz_eval_machine.proofs.Going.{goes_same}
 use Rattle.pz_eval_machine.proofs.Onward.{not_tested, part_chosen}

@@ -1,8 +1,8 @@
 use Rattle.std.proofs.Common.{◌≡◌, ◌-◌, Bool, subst, arith}
-use Rattle.pz_value.specs.declared.value.Value.TheVariants.{Bool as Boolean}
+use Rattle.pz_classes_code.specs.pz_value.declared.value.Value.TheVariants.{Bool as Boolean}
 use Rattle.pz_classes_code.specs.CodeView.{view}
-use Rattle.pz_eval_rules.specs.Answers.{gives}
-use Rattle.pz_eval_rules.specs.devices.Computed.{done, evaluated}
+use Rattle.pz_eval_operations.specs.pz_eval_rules.Answers.{gives}
+use Rattle.pz_eval_operations.specs.pz_eval_rules.devices.Computed.{done, evaluated}
 use Rattle.pz_eval_operations.specs.devices.Sites.{place_of, memory_of}
 use Rattle.pz_eval_machine.proofs.choosing.turn_begins.Goals as goal
 

@@ -1,7 +1,7 @@
 use Rattle.std.proofs.Common.{length, ◌+◌, arith}
 use Rattle.std.proofs.lemmas.Result.{IfOk-weaker}
 use Rattle.pz_classes_code.specs.CodeView.{view, list_view}
-use Rattle.pz_eval_rules.specs.devices.Computed.{going, evaluated}
+use Rattle.pz_eval_operations.specs.pz_eval_rules.devices.Computed.{going, evaluated}
 use Rattle.pz_eval_operations.specs.declared.task.Task.TheVariants as task
 use Rattle.pz_eval_operations.specs.devices.Sites.{place_of, memory_of}
 use Rattle.pz_eval_operations.specs.devices.Within.{TaskWithin}

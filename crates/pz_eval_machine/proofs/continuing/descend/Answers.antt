@@ -1,5 +1,5 @@
 use Rattle.pz_classes_code.specs.CodeView.{view}
-use Rattle.pz_eval_rules.specs.devices.Computed.{evaluated}
+use Rattle.pz_eval_operations.specs.pz_eval_rules.devices.Computed.{evaluated}
 use Rattle.pz_eval_machine.proofs.Going.{then_pending}
 use Rattle.std.proofs.Common.{ℕ, ◌+◌, ap}
 use Rattle.pz_eval_machine.specs.devices.Weights.{weight}

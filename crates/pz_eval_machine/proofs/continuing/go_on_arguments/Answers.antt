@@ -2,8 +2,8 @@ use Rattle.std.proofs.Common.{◌≡◌, ◌+◌, length, refl, sym, ap, ◌∙�
 use Rattle.std.proofs.lemmas.Result.{IfOk-weaker}
 use Rattle.pz_classes_code.specs.CodeView.{view, list_view}
 use Rattle.pz_state.specs.References.{RefersWithin}
-use Rattle.pz_eval_rules.specs.Answers.{gives}
-use Rattle.pz_eval_rules.specs.devices.Computed.{done, evaluated}
+use Rattle.pz_eval_operations.specs.pz_eval_rules.Answers.{gives}
+use Rattle.pz_eval_operations.specs.pz_eval_rules.devices.Computed.{done, evaluated}
 use Rattle.pz_eval_operations.specs.declared.task.Request.{Request}
 use Rattle.pz_eval_operations.specs.declared.task.Activation.{Activation}
 use Rattle.pz_eval_operations.specs.devices.Sites.{place_of, memory_of}

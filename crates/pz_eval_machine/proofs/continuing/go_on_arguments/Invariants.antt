@@ -1,7 +1,7 @@
 use Rattle.std.proofs.Common.{◌≡◌, ℕ, length}
-use Rattle.pz_syntax.specs.Classes.{ModelTree}
+use Rattle.pz_classes_code.specs.pz_syntax.Classes.{ModelTree}
 use Rattle.pz_classes_code.specs.CodeView.{list_view}
-use Rattle.pz_eval_rules.specs.devices.Computed.{and_then, arguments, evaluated}
+use Rattle.pz_eval_operations.specs.pz_eval_rules.devices.Computed.{and_then, arguments, evaluated}
 use Rattle.pz_eval_operations.specs.devices.Sites.{place_of, memory_of}
 use Rattle.pz_eval_operations.specs.devices.Views.{sendings_view}
 use Rattle.pz_eval_machine.specs.devices.Tasks.{sent}

@@ -1,7 +1,7 @@
 use Rattle.std.proofs.Common.{ap, subst, ◌∙◌, length, Option, Some}
 use Rattle.std.specs.Prelude.{IfSome}
 use Rattle.pz_classes_code.specs.CodeView.{view, list_view}
-use Rattle.pz_value.specs.declared.value.Value.{Value}
+use Rattle.pz_classes_code.specs.pz_value.declared.value.Value.{Value}
 use Rattle.pz_state.specs.References.{RefersWithin}
 use Rattle.pz_eval_operations.specs.devices.AtOnce.{Assigned}
 use Rattle.pz_eval_operations.specs.devices.Sites.{place_of, memory_of}

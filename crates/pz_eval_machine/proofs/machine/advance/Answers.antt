@@ -3,8 +3,8 @@ use Rattle.std.specs.Prelude.{All}
 use Rattle.std.proofs.lemmas.Result.{IfOk-weaker}
 use Rattle.std.proofs.lemmas.List.Elements.{All-pop}
 use Rattle.pz_classes_code.specs.CodeView.{view}
-use Rattle.pz_eval_rules.specs.devices.Computed.{Reached, and_then, evaluated}
-use Rattle.pz_value.specs.declared.value.Value.{Value}
+use Rattle.pz_eval_operations.specs.pz_eval_rules.devices.Computed.{Reached, and_then, evaluated}
+use Rattle.pz_classes_code.specs.pz_value.declared.value.Value.{Value}
 use Rattle.pz_eval_machine.specs.declared.control.Control.{Control}
 use Rattle.pz_eval_operations.specs.declared.task.Site.{Site}
 use Rattle.pz_eval_operations.specs.declared.task.Request.{Request}

@@ -1,9 +1,9 @@
 use Rattle.std.proofs.Common.{length}
 use Rattle.pz_classes_code.specs.CodeView.{view}
 use Rattle.pz_state.specs.References.{RefersWithin}
-use Rattle.pz_eval_rules.specs.Memories.{in_process}
-use Rattle.pz_eval_rules.specs.Outcomes.{outside}
-use Rattle.pz_eval_rules.specs.devices.Computed.{evaluated}
+use Rattle.pz_eval_operations.specs.pz_eval_rules.Memories.{in_process}
+use Rattle.pz_eval_operations.specs.pz_eval_rules.Outcomes.{outside}
+use Rattle.pz_eval_operations.specs.pz_eval_rules.devices.Computed.{evaluated}
 use Rattle.pz_eval_machine.specs.declared.control.Control.TheVariants as control
 use Rattle.pz_eval_machine.specs.devices.Tasks.{meant}
 use Rattle.pz_eval_operations.specs.devices.Within.{TaskWithin}

@@ -1,7 +1,7 @@
 use Rattle.std.proofs.Common.{List, sym, ap, subst, ◌∙◌}
 use Rattle.std.specs.Prelude.{All}
-use Rattle.pz_eval_rules.specs.Answers.{gives}
-use Rattle.pz_eval_rules.specs.devices.Computed.{done}
+use Rattle.pz_eval_operations.specs.pz_eval_rules.Answers.{gives}
+use Rattle.pz_eval_operations.specs.pz_eval_rules.devices.Computed.{done}
 use Rattle.pz_eval_operations.specs.declared.task.Activation.{Activation}
 use Rattle.pz_eval_operations.specs.devices.Sites.{place_of, locals_at, memory_at}
 use Rattle.pz_eval_machine.specs.devices.Steps.{root}

@@ -1,7 +1,7 @@
 use Rattle.std.proofs.Common.{◌≡◌, ◌≤◌, length}
 use Rattle.std.specs.Prelude.{All}
-use Rattle.pz_syntax.specs.Classes.{ModelTree}
-use Rattle.pz_classes.specs.devices.Rows.{AreClasses}
+use Rattle.pz_classes_code.specs.pz_syntax.Classes.{ModelTree}
+use Rattle.pz_eval_operations.specs.pz_classes.devices.Rows.{AreClasses}
 use Rattle.pz_eval_operations.specs.devices.Sites.{place_of, memory_at}
 use Rattle.pz_eval_machine.specs.devices.Tasks.{meant, unwound}
 use Rattle.pz_eval_machine.specs.devices.Steps.{root}

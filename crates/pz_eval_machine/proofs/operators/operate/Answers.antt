@@ -1,8 +1,8 @@
 use Rattle.std.proofs.Common.{sym, subst, ℕ, length}
 use Rattle.std.specs.Prelude.{All}
 use Rattle.std.proofs.lemmas.Result.{IfOk-weaker}
-use Rattle.pz_eval_rules.specs.Steps.{applied}
-use Rattle.pz_eval_rules.specs.devices.Computed.{operators, evaluated}
+use Rattle.pz_eval_operations.specs.pz_eval_rules.Steps.{applied}
+use Rattle.pz_eval_operations.specs.pz_eval_rules.devices.Computed.{operators, evaluated}
 use Rattle.pz_eval_operations.specs.devices.Views.{links_view}
 use Rattle.pz_eval_machine.specs.devices.Tasks.{pending, meant}
 use Rattle.pz_eval_operations.specs.devices.Within.{TaskWithin}

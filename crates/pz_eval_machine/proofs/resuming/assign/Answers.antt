@@ -1,8 +1,8 @@
 use Rattle.std.proofs.Common.{ap, sym, subst, ◌∙◌, ℕ, length}
 use Rattle.std.specs.Prelude.{All}
-use Rattle.pz_value.specs.declared.value.Value.{Value}
+use Rattle.pz_classes_code.specs.pz_value.declared.value.Value.{Value}
 use Rattle.pz_state.specs.References.{RefersWithin}
-use Rattle.pz_eval_rules.specs.Memories.{Memory, write}
+use Rattle.pz_eval_operations.specs.pz_eval_rules.Memories.{Memory, write}
 use Rattle.pz_eval_operations.specs.devices.Sites.{place_of, memory_at}
 use Rattle.pz_eval_machine.specs.devices.Tasks.{pending}
 use Rattle.pz_eval_operations.specs.devices.Within.{TaskWithin, SiteWithin}

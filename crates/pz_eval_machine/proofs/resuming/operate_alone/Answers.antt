@@ -1,4 +1,4 @@
-use Rattle.pz_eval_rules.specs.Steps.{applied_alone}
+use Rattle.pz_eval_operations.specs.pz_eval_rules.Steps.{applied_alone}
 use Rattle.pz_eval_machine.proofs.Going.{told_goes}
 use Rattle.pz_eval_machine.proofs.Within.{given_within}
 use Rattle.pz_eval_machine.proofs.Weighing.{given_weighs}

@@ -2,7 +2,7 @@ use Rattle.std.proofs.Common.{ap, sym, subst, ℕ, length}
 use Rattle.std.specs.Prelude.{All}
 use Rattle.std.proofs.lemmas.Result.{IfOk-weaker}
 use Rattle.pz_state.specs.References.{RefersWithin}
-use Rattle.pz_eval_rules.specs.devices.Computed.{and_then}
+use Rattle.pz_eval_operations.specs.pz_eval_rules.devices.Computed.{and_then}
 use Rattle.pz_eval_operations.specs.declared.task.Task.{Task}
 use Rattle.pz_eval_operations.specs.devices.Sites.{place_of, locals_at, memory_at}
 use Rattle.pz_eval_machine.specs.devices.Tasks.{resumed, pending, meant, coming}

@@ -1,5 +1,5 @@
 use Rattle.std.proofs.Common.{sym}
-use Rattle.pz_value.specs.declared.value.Value.TheVariants.{Int}
+use Rattle.pz_classes_code.specs.pz_value.declared.value.Value.TheVariants.{Int}
 use Rattle.pz_eval_operations.specs.devices.Sites.{place_of, memory_of}
 use Rattle.pz_eval_operations.proofs.Worth.{some_weaker, literal_worth, variable_worth}
 use Rattle.pz_eval_operations.proofs.attempts.number.Goals as goal

@@ -3,8 +3,8 @@ use Rattle.std.specs.Prelude.{FitsSigned}
 use Rattle.std.specs.Int.{cast_unsigned, cast_signed}
 use Rattle.std.proofs.Common.{rules}
 use Rattle.std.proofs.lemmas.Int.{to_z-of_z}
-use Rattle.pz_syntax.specs.Expressions.{chain}
-use Rattle.pz_value.specs.declared.value.Value.TheVariants.{Int}
+use Rattle.pz_classes_code.specs.pz_syntax.Expressions.{chain}
+use Rattle.pz_classes_code.specs.pz_value.declared.value.Value.TheVariants.{Int}
 use Rattle.pz_classes_code.specs.CodeView.{Tree, view}
 use Rattle.pz_eval_operations.specs.devices.AtOnce.{IsWorthThree, Attempt}
 use Rattle.pz_eval_operations.specs.devices.Sites.{place_of, memory_of}

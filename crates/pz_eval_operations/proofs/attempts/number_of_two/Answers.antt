@@ -3,7 +3,7 @@ use Rattle.std.specs.Prelude.{FitsSigned}
 use Rattle.std.specs.Int.{cast_unsigned, cast_signed}
 use Rattle.std.proofs.Common.{rules}
 use Rattle.std.proofs.lemmas.Int.{to_z-of_z}
-use Rattle.pz_value.specs.declared.value.Value.TheVariants.{Int}
+use Rattle.pz_classes_code.specs.pz_value.declared.value.Value.TheVariants.{Int}
 use Rattle.pz_eval_operations.proofs.Applied.{gives_back}
 use Rattle.pz_eval_operations.proofs.Worth.{some_weaker}
 use Rattle.pz_eval_operations.proofs.attempts.number_of_two.Goals as goal

@@ -1,5 +1,5 @@
 use Rattle.std.proofs.Common.{◌-◌, arith}
-use Rattle.pz_syntax.specs.Expressions.{chain}
+use Rattle.pz_classes_code.specs.pz_syntax.Expressions.{chain}
 use Rattle.pz_classes_code.specs.CodeView.{view}
 use Rattle.pz_eval_operations.specs.devices.Sites.{place_of, memory_of}
 use Rattle.pz_eval_operations.specs.devices.Views.{links_view}

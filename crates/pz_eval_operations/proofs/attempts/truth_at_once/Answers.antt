@@ -1,6 +1,6 @@
 use Rattle.std.proofs.Common.{◌-◌, Some, subst, arith}
-use Rattle.pz_syntax.specs.Expressions.{chain}
-use Rattle.pz_value.specs.declared.value.Value.TheVariants.{Bool as Boolean, Int}
+use Rattle.pz_classes_code.specs.pz_syntax.Expressions.{chain}
+use Rattle.pz_classes_code.specs.pz_value.declared.value.Value.TheVariants.{Bool as Boolean, Int}
 use Rattle.pz_classes_code.specs.CodeView.{Tree, view}
 use Rattle.pz_eval_operations.specs.devices.AtOnce.{Attempt}
 use Rattle.pz_eval_operations.specs.devices.Sites.{place_of, memory_of}

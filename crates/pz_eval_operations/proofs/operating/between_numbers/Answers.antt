@@ -2,8 +2,8 @@ use Rattle.std.proofs.Common.{◌+ℤ◌, ◌-ℤ◌, ◌*ℤ◌, w64}
 use Rattle.std.specs.Prelude.{int_lt, int_le}
 use Rattle.std.specs.Int.{cast_unsigned, cast_signed}
 use Rattle.std.proofs.lemmas.Int.{to_z-of_z}
-use Rattle.pz_value.specs.declared.value.Value.{Value}
-use Rattle.pz_value.specs.declared.value.Value.TheVariants.{Int}
+use Rattle.pz_classes_code.specs.pz_value.declared.value.Value.{Value}
+use Rattle.pz_classes_code.specs.pz_value.declared.value.Value.TheVariants.{Int}
 use Rattle.pz_eval_operations.proofs.Applied.{Gives, read_back, same_bits, by_number, sum_gives, difference_gives, product_gives, equal_gives, unequal_gives, less_gives, less_equal_gives, greater_gives, greater_equal_gives}
 use Rattle.pz_eval_operations.proofs.operating.between_numbers.Goals as goal
 

@@ -1,7 +1,7 @@
 use Rattle.std.proofs.Common.{ℤ, ◌+ℤ◌, ◌-ℤ◌, ◌*ℤ◌, w64}
 use Rattle.std.specs.Int.{cast_unsigned, cast_signed}
 use Rattle.std.proofs.lemmas.Int.{to_z-of_z}
-use Rattle.pz_value.specs.declared.value.Value.TheVariants.{Int}
+use Rattle.pz_classes_code.specs.pz_value.declared.value.Value.TheVariants.{Int}
 use Rattle.pz_eval_operations.proofs.Applied.{Gives, in_range, sum_gives, difference_gives, product_gives}
 use Rattle.pz_eval_operations.proofs.operating.number_between.Goals as goal
 

@@ -1,6 +1,6 @@
 use Rattle.std.proofs.lemmas.Result.{IfOk-weaker}
 use Rattle.pz_classes_code.specs.StepView.{sequence_view}
-use Rattle.pz_part_opening.specs.Homes.{home_view}
+use Rattle.pz_term_around.specs.pz_part_opening.Homes.{home_view}
 use Rattle.pz_part_actions.proofs.Calls.{frame_entered}
 use Rattle.pz_part_actions.proofs.calling.enter.Goals as goal
 

@@ -3,7 +3,7 @@ use Rattle.pz_classes_code.specs.declared.step.Step.{Step}
 use Rattle.pz_classes_code.specs.StepView.{sequence_view}
 use Rattle.pz_rules.specs.Terms.{Term, height}
 use Rattle.pz_rules.specs.Opening.{opened_all}
-use Rattle.pz_part_opening.specs.Homes.{home_view}
+use Rattle.pz_term_around.specs.pz_part_opening.Homes.{home_view}
 use Rattle.pz_part_actions.proofs.opening.open_low.Goals as goal
 
 pub returns-then-stays_within-limit-clause-opens : goal.returns-then-stays_within-limit-clause-opens

@@ -1,12 +1,12 @@
 use Rattle.std.proofs.Common.{sym, subst, ap}
 use Rattle.std.specs.Result.{IfOk}
 use Rattle.std.proofs.Math.Logic.{∥∥₁_map}
-use Rattle.pz_syntax.specs.declared.tokens.Pos.{Pos}
-use Rattle.pz_classes.specs.CheckedView.{checked_model}
+use Rattle.pz_classes_code.specs.pz_syntax.declared.tokens.Pos.{Pos}
+use Rattle.pz_part_queries.specs.pz_classes.CheckedView.{checked_model}
 use Rattle.pz_rules.specs.declared.action.Kind.{Kind}
 use Rattle.pz_rules.specs.InternalActions.{Can}
 use Rattle.pz_rules.specs.View.{term_view}
-use Rattle.pz_eval.specs.Known.{AreKnown}
+use Rattle.pz_part_queries.specs.pz_eval.Known.{AreKnown}
 use Rattle.pz_part_queries.specs.declared.standpoint.Standpoint.{Standpoint}
 use Rattle.pz_part_queries.specs.Standpoints.{Knows}
 use Rattle.pz_part_actions.specs.Becoming.{process_left, HasPerformed}

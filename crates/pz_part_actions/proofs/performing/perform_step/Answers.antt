@@ -2,7 +2,7 @@ use Rattle.std.proofs.Common.{Ok, sym, ap, ◌∙◌}
 use Rattle.pz_classes_code.specs.declared.code.Code.{Code}
 use Rattle.pz_classes_code.specs.CodeView as code
 use Rattle.pz_classes_code.specs.StepView.{view, sequence_view}
-use Rattle.pz_syntax.specs.Statements.{conditional}
+use Rattle.pz_classes_code.specs.pz_syntax.Statements.{conditional}
 use Rattle.pz_rules.specs.declared.term.Term.TheVariants.{Done}
 use Rattle.pz_rules.specs.Terms.{leaf}
 use Rattle.pz_part_actions.specs.Becoming.{process_left}

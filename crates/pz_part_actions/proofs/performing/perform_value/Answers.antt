@@ -1,4 +1,4 @@
-use Rattle.pz_syntax.specs.Statements.{value}
+use Rattle.pz_classes_code.specs.pz_syntax.Statements.{value}
 use Rattle.pz_classes_code.specs.CodeView.{view}
 use Rattle.pz_rules.specs.Terms.{leaf}
 use Rattle.pz_part_queries.specs.Standpoints.{seen_from}

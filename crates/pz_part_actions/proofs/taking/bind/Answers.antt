@@ -1,8 +1,8 @@
 use Rattle.std.proofs.Common.{ap, subst}
 use Rattle.std.specs.Prelude.{IfOk}
 use Rattle.pz_classes_code.specs.CodeView.{part_view}
-use Rattle.pz_state.specs.States.{StateView}
-use Rattle.pz_state.specs.Marks.{Seen}
+use Rattle.pz_rules.specs.pz_state.States.{StateView}
+use Rattle.pz_rules.specs.pz_state.Marks.{Seen}
 use Rattle.pz_part_queries.specs.Standpoints.{seen_from}
 use Rattle.pz_part_actions.specs.devices.Effects.{Ran}
 use Rattle.pz_part_actions.proofs.taking.bind.Goals as goal

@@ -2,7 +2,7 @@ use Rattle.std.proofs.Common.{[], ◌∷◌, ap, ◌∙◌}
 use Rattle.pz_classes_code.specs.declared.step.Step.{Step}
 use Rattle.pz_classes_code.specs.StepView.{sequence_view}
 use Rattle.pz_rules.specs.Opening.{opened_all}
-use Rattle.pz_part_opening.specs.Homes.{home_view}
+use Rattle.pz_term_around.specs.pz_part_opening.Homes.{home_view}
 use Rattle.pz_part_actions.proofs.Becomings.{goes_round}
 use Rattle.pz_part_actions.proofs.Openings.{opens_low, opens_high, loop_high}
 use Rattle.pz_part_actions.proofs.testing.go_round.Goals as goal

@@ -1,12 +1,12 @@
 use Rattle.std.proofs.Common.{Err, refl}
 use Rattle.std.proofs.lemmas.Result.{IfOk-weaker}
-use Rattle.pz_syntax.specs.Statements.{conditional}
+use Rattle.pz_classes_code.specs.pz_syntax.Statements.{conditional}
 use Rattle.pz_classes_code.specs.CodeView.{view}
 use Rattle.pz_classes_code.specs.StepView.{sequence_view}
 use Rattle.pz_rules.specs.Terms.{leaf}
 use Rattle.pz_rules.specs.InternalActions.{chosen}
-use Rattle.pz_classes.specs.CheckedView.{checked_model}
-use Rattle.pz_part_opening.specs.Homes.{home_view}
+use Rattle.pz_part_queries.specs.pz_classes.CheckedView.{checked_model}
+use Rattle.pz_term_around.specs.pz_part_opening.Homes.{home_view}
 use Rattle.pz_part_actions.specs.devices.Standing.{seen_there}
 use Rattle.pz_part_actions.specs.devices.Parts.{otherwise_view}
 use Rattle.pz_part_actions.proofs.Becomings.{home_is}

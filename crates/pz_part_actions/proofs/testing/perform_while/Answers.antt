@@ -4,8 +4,8 @@ use Rattle.pz_classes_code.specs.CodeView as code
 use Rattle.pz_classes_code.specs.StepView.{view, sequence_view}
 use Rattle.pz_rules.specs.Terms.{leaf}
 use Rattle.pz_rules.specs.InternalActions.{turned}
-use Rattle.pz_classes.specs.CheckedView.{checked_model}
-use Rattle.pz_part_opening.specs.Homes.{home_view}
+use Rattle.pz_part_queries.specs.pz_classes.CheckedView.{checked_model}
+use Rattle.pz_term_around.specs.pz_part_opening.Homes.{home_view}
 use Rattle.pz_part_actions.specs.devices.Standing.{seen_there}
 use Rattle.pz_part_actions.proofs.Becomings.{home_is}
 use Rattle.pz_part_actions.proofs.Openings.{answered, opening_answered}

@@ -1,7 +1,7 @@
 use Rattle.std.proofs.Common.{◌≡◌, ◌∙◌, ap, sym, Ok, w64, FitsSigned, rules, arith}
 use Rattle.std.specs.Prelude.{int_rem}
 use Rattle.std.proofs.lemmas.Int.{to_z-of_z}
-use Rattle.pz_value.specs.declared.value.Value.TheVariants.{Int}
+use Rattle.pz_state.specs.pz_value.declared.value.Value.TheVariants.{Int}
 use Rattle.pz_prims.proofs.Numbers.{modulo_is, divided_by_other}
 use Rattle.pz_prims.proofs.integers.modulo.Goals as goal
 

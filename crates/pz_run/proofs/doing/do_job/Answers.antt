@@ -1,6 +1,6 @@
 use Rattle.std.proofs.Common.{refl}
-use Rattle.pz_run.proofs.OfJobs.{keeps_run, keeps_menu, keeps_check, keeps_make, keeps_ring}
-use Rattle.pz_run.proofs.Formatted.{keeps_format}
+use Rattle.pz_run_output.proofs.OfJobs.{keeps_run, keeps_menu, keeps_check, keeps_make, keeps_ring}
+use Rattle.pz_run_output.proofs.Formatted.{keeps_format}
 use Rattle.pz_run.proofs.Replayed.{keeps_replay}
 use Rattle.pz_run.proofs.Watched.{keeps_watch}
 use Rattle.pz_run.proofs.Driven.{keeps_drive}

@@ -1,4 +1,4 @@
-use Rattle.pz_env_tree.specs.pz_env_rules.Text.{drive_header}
+use Rattle.pz_run_output.specs.pz_env_closing.pz_env_rules.Text.{drive_header}
 use Rattle.pz_run.proofs.driving.drive_from.Goals as goal
 
 pub returns : goal.returns

@@ -1,6 +1,6 @@
 use Rattle.std.proofs.Common.{refl}
-use Rattle.pz_classes.specs.CheckedView.{checked_model}
-use Rattle.pz_run.specs.Scripts.{malformed}
+use Rattle.pz_bind.specs.pz_classes.CheckedView.{checked_model}
+use Rattle.pz_run_output.specs.Scripts.{malformed}
 use Rattle.pz_run.proofs.Handed.{no_script_hands}
 use Rattle.pz_run.proofs.driving.drive_lines.Goals as goal
 

@@ -1,12 +1,12 @@
 use Rattle.std.proofs.Common.{ℕ, Err, ap, refl}
 use Rattle.std.specs.Prelude.{Vec}
 use Rattle.std.specs.declared.alloc.Global.{Global}
-use Rattle.pz_classes.specs.CheckedView.{checked_model}
-use Rattle.pz_run.specs.Files.{script_file}
-use Rattle.pz_run.specs.Output.{PrintsDriven}
-use Rattle.pz_run.specs.devices.Reading.{whole}
+use Rattle.pz_bind.specs.pz_classes.CheckedView.{checked_model}
+use Rattle.pz_run_output.specs.Files.{script_file}
+use Rattle.pz_run_output.specs.Output.{PrintsDriven}
+use Rattle.pz_run_output.specs.devices.Reading.{whole}
 use Rattle.pz_run.specs.HandedOut.{DriveHandsOut}
-use Rattle.pz_run.proofs.Unread.{not_fault, unread}
+use Rattle.pz_run_output.proofs.Unread.{not_fault, unread}
 use Rattle.pz_run.proofs.Handed.{read_hands, unread_hands}
 use Rattle.pz_run.proofs.driving.drive_model.Goals as goal
 

@@ -1,11 +1,11 @@
 use Rattle.std.proofs.Common.{refl, subst}
-use Rattle.pz_syntax.specs.Classes.{ModelTree}
-use Rattle.pz_classes.specs.CheckedView.{checked_model}
+use Rattle.pz_bind.specs.pz_syntax.Classes.{ModelTree}
+use Rattle.pz_bind.specs.pz_classes.CheckedView.{checked_model}
 use Rattle.pz_run.specs.HandedOut.{RunHandsOut, left_in}
-use Rattle.pz_run.specs.Scripts.{unfit}
+use Rattle.pz_run_output.specs.Scripts.{unfit}
 use Rattle.pz_run.specs.devices.Driving.{PrintsClosedRun}
 use Rattle.pz_run.specs.devices.Handing.{Hands}
-use Rattle.pz_run.specs.devices.Saying.{Answers}
+use Rattle.pz_run_output.specs.devices.Saying.{Answers}
 use Rattle.pz_run.proofs.Drivings.{driven_said}
 use Rattle.pz_run.proofs.Handed.{driven_hands, no_script_hands}
 use Rattle.pz_run.proofs.driving.drive_script.Goals as goal

@@ -1,12 +1,12 @@
 use Rattle.std.proofs.Common.{refl, arith}
-use Rattle.pz_classes.specs.CheckedView.{checked_model}
-use Rattle.pz_run.specs.Files.{script_file}
-use Rattle.pz_run.specs.Output.{PrintsDriven}
-use Rattle.pz_run.specs.devices.TwoFiles.{refuses, goes_on}
+use Rattle.pz_bind.specs.pz_classes.CheckedView.{checked_model}
+use Rattle.pz_run_output.specs.Files.{script_file}
+use Rattle.pz_run_output.specs.Output.{PrintsDriven}
+use Rattle.pz_run_output.specs.devices.TwoFiles.{refuses, goes_on}
 use Rattle.pz_run.specs.devices.Driving.{PrintsScript}
-use Rattle.pz_run.proofs.TwoAnswers.{reading_by, closed_said}
+use Rattle.pz_run_output.proofs.TwoAnswers.{reading_by, closed_said}
 use Rattle.pz_run.proofs.Drivings.{of_driven}
-use Rattle.pz_run_reading.specs.Openings.{IsOpenModelOf}
+use Rattle.pz_run_output.specs.pz_run_lines.pz_run_reading.Openings.{IsOpenModelOf}
 use Rattle.pz_run.specs.HandedOut.{ScriptFileHandsOut, of_model}
 use Rattle.pz_run.proofs.Handed.{refusal_hands}
 use Rattle.pz_run.proofs.driving.drive_text.Goals as goal

@@ -1,6 +1,6 @@
 use Rattle.pz_sim.specs.Sims.{simulation_of}
-use Rattle.pz_env_tree.specs.pz_env_rules.Text.{drive_header}
-use Rattle.pz_run.specs.Plays.{setting_for}
+use Rattle.pz_run_output.specs.pz_env_closing.pz_env_rules.Text.{drive_header}
+use Rattle.pz_run_output.specs.Plays.{setting_for}
 use Rattle.pz_run.proofs.Drivings.{says_closed}
 use Rattle.pz_run.proofs.Handed.{under_hands, run_begun}
 use Rattle.pz_run.proofs.driving.drive_whole.Goals as goal

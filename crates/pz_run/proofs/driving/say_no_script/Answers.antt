@@ -1,7 +1,7 @@
 use Rattle.std.proofs.Common.{ℕ, ◌≡◌, ◌∙◌, Some, None, sym}
-use Rattle.pz_run_lines.specs.Lines.{script_refused_line}
-use Rattle.pz_run.specs.Output.{PrintsDriven}
-use Rattle.pz_run.proofs.Sayings.{nothing}
+use Rattle.pz_run_output.specs.pz_run_lines.Lines.{script_refused_line}
+use Rattle.pz_run_output.specs.Output.{PrintsDriven}
+use Rattle.pz_run_output.proofs.Sayings.{nothing}
 use Rattle.pz_run.proofs.Drivings.{no_script_said}
 use Rattle.pz_run.proofs.driving.say_no_script.Goals as goal
 

@@ -1,5 +1,5 @@
 use Rattle.pz_sim.specs.Sims.{simulation_of}
-use Rattle.pz_run.specs.Plays.{setting_for}
+use Rattle.pz_run_output.specs.Plays.{setting_for}
 use Rattle.pz_run.proofs.Played.{says_run}
 use Rattle.pz_run.proofs.Handed.{run_hands, run_begun}
 use Rattle.pz_run.proofs.playing.play_whole.Goals as goal

@@ -1,5 +1,5 @@
-use Rattle.pz_run.proofs.CanEnds.{only_usage, no_usage}
-use Rattle.pz_run.proofs.Keeps.{raised_rose}
+use Rattle.pz_run_output.proofs.CanEnds.{only_usage, no_usage}
+use Rattle.pz_run_output.proofs.Keeps.{raised_rose}
 use Rattle.pz_run.proofs.program.run_program.Goals as goal
 
 pub returns-clause-output : goal.returns-clause-output

@@ -1,9 +1,9 @@
 use Rattle.std.proofs.Common.{Some, None, refl, subst, map, string_bytes}
 use Rattle.pz_words.specs.Jobs.{IsAsked}
-use Rattle.pz_run.specs.Files.{files_of}
-use Rattle.pz_run.specs.declared.status.Status.TheVariants.{NoMemory}
+use Rattle.pz_run_output.specs.Files.{files_of}
+use Rattle.pz_run_output.specs.declared.status.Status.TheVariants.{NoMemory}
 use Rattle.pz_run.proofs.Asked.{keeps_asked, found_sized, found_few, found_units}
-use Rattle.pz_run.proofs.Keeps.{keeps_usage, keeps_nothing, not_opened, opened_never}
+use Rattle.pz_run_output.proofs.Keeps.{keeps_usage, keeps_nothing, not_opened, opened_never}
 use Rattle.pz_run.proofs.Asked.{hands_asked}
 use Rattle.pz_run.proofs.program.run_words.Goals as goal
 

@@ -1,12 +1,12 @@
 use Rattle.std.proofs.Common.{ℕ, Err, ap, refl}
 use Rattle.std.specs.Prelude.{Vec}
 use Rattle.std.specs.declared.alloc.Global.{Global}
-use Rattle.pz_run.specs.Files.{model_file}
-use Rattle.pz_run.specs.devices.Replaying.{PrintsRefusal, no_model}
-use Rattle.pz_run.proofs.Unread.{not_fault, unread}
+use Rattle.pz_run_output.specs.Files.{model_file}
+use Rattle.pz_run_output.specs.devices.Replaying.{PrintsRefusal, no_model}
+use Rattle.pz_run_output.proofs.Unread.{not_fault, unread}
 use Rattle.pz_run.proofs.Replayed.{from_text}
 use Rattle.pz_io.specs.Outside.{Entries}
-use Rattle.pz_run_reading.specs.Models.{IsModelOf}
+use Rattle.pz_run_output.specs.pz_run_lines.pz_run_reading.Models.{IsModelOf}
 use Rattle.pz_run.specs.HandedOut.{ModelHandsOut, TraceFileHandsOut}
 use Rattle.pz_run.proofs.Handed.{first_hands, unread_hands}
 use Rattle.pz_run.proofs.replaying.replay_file.Goals as goal

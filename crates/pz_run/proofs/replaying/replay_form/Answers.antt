@@ -1,7 +1,7 @@
 use Rattle.std.proofs.Common.{inr, refl}
-use Rattle.pz_classes.specs.CheckedView.{checked_model}
+use Rattle.pz_bind.specs.pz_classes.CheckedView.{checked_model}
 use Rattle.pz_run.proofs.Begins.{opens_at}
-use Rattle.pz_run.proofs.Sayings.{nothing}
+use Rattle.pz_run_output.proofs.Sayings.{nothing}
 use Rattle.pz_run.proofs.replaying.replay_form.Goals as goal
 
 pub replay_whole-requires-clause-opens : goal.replay_whole-requires-clause-opens

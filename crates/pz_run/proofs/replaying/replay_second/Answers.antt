@@ -1,4 +1,4 @@
-use Rattle.pz_classes.specs.CheckedView.{checked_model}
+use Rattle.pz_bind.specs.pz_classes.CheckedView.{checked_model}
 use Rattle.pz_run.proofs.Replayed.{closed_said}
 use Rattle.std.proofs.Common.{refl}
 use Rattle.pz_run.proofs.Handed.{closed_hands}

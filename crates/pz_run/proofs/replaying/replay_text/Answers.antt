@@ -1,10 +1,10 @@
 use Rattle.std.proofs.Common.{refl}
-use Rattle.pz_classes.specs.CheckedView.{checked_model}
-use Rattle.pz_run.specs.Plays.{setting_with}
-use Rattle.pz_run.specs.Files.{trace_file}
-use Rattle.pz_run.specs.devices.Replaying.{refuses, goes_on}
+use Rattle.pz_bind.specs.pz_classes.CheckedView.{checked_model}
+use Rattle.pz_run_output.specs.Plays.{setting_with}
+use Rattle.pz_run_output.specs.Files.{trace_file}
+use Rattle.pz_run_output.specs.devices.Replaying.{refuses, goes_on}
 use Rattle.pz_run.proofs.Replayed.{of_reading, refusal_said}
-use Rattle.pz_run_reading.specs.Models.{IsModelOf}
+use Rattle.pz_run_output.specs.pz_run_lines.pz_run_reading.Models.{IsModelOf}
 use Rattle.pz_run.specs.HandedOut.{TraceFileHandsOut, of_model}
 use Rattle.pz_run.proofs.Handed.{refusal_hands}
 use Rattle.pz_run.proofs.replaying.replay_text.Goals as goal

@@ -1,5 +1,5 @@
 use Rattle.std.proofs.Common.{sym, ◌∙◌}
-use Rattle.pz_trace.specs.declared.forms.Form.TheVariants.{One}
+use Rattle.pz_run_output.specs.pz_trace.declared.forms.Form.TheVariants.{One}
 use Rattle.pz_run.proofs.Replayed.{is_header, is_second}
 use Rattle.pz_run.proofs.replaying.replay_trace.Goals as goal
 

@@ -1,5 +1,5 @@
 use Rattle.pz_sim.specs.Sims.{simulation_of}
-use Rattle.pz_run.specs.Plays.{setting_with}
+use Rattle.pz_run_output.specs.Plays.{setting_with}
 use Rattle.pz_run.proofs.Replayed.{says_replay}
 use Rattle.pz_run.proofs.Handed.{replay_hands, replayed_begun}
 use Rattle.pz_run.proofs.replaying.replay_whole.Goals as goal

@@ -1,8 +1,8 @@
 use Rattle.std.proofs.Common.{inr, refl}
-use Rattle.pz_classes.specs.CheckedView.{checked_model}
-use Rattle.pz_run.specs.Output.{PrintsJudged}
+use Rattle.pz_bind.specs.pz_classes.CheckedView.{checked_model}
+use Rattle.pz_run_output.specs.Output.{PrintsJudged}
 use Rattle.pz_run.proofs.Begins.{opens_at}
-use Rattle.pz_run.proofs.Sayings.{nothing}
+use Rattle.pz_run_output.proofs.Sayings.{nothing}
 use Rattle.pz_run.proofs.watching.judge_model.Goals as goal
 
 pub judge_whole-requires-clause-opens : goal.judge_whole-requires-clause-opens

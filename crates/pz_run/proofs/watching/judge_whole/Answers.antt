@@ -1,5 +1,5 @@
 use Rattle.pz_sim.specs.Sims.{simulation_of}
-use Rattle.pz_run.specs.Plays.{setting_for}
+use Rattle.pz_run_output.specs.Plays.{setting_for}
 use Rattle.pz_run.proofs.Judgings.{says_judged}
 use Rattle.pz_run.proofs.Handed.{judged_hands, judged_begun}
 use Rattle.pz_run.proofs.watching.judge_whole.Goals as goal

@@ -1,8 +1,8 @@
 use Rattle.std.proofs.Common.{ℕ, ◌≡◌, ◌∙◌, sym}
 use Rattle.pz_watch.specs.declared.errors.ReadWatchesError.TheVariants.{NoMemory, Refused}
-use Rattle.pz_run_lines.specs.Lines.{watch_refused_line}
-use Rattle.pz_run.specs.Output.{PrintsJudged}
-use Rattle.pz_run.proofs.Sayings.{nothing}
+use Rattle.pz_run_output.specs.pz_run_lines.Lines.{watch_refused_line}
+use Rattle.pz_run_output.specs.Output.{PrintsJudged}
+use Rattle.pz_run_output.proofs.Sayings.{nothing}
 use Rattle.pz_run.proofs.Judgings.{no_watches_said}
 use Rattle.pz_run.proofs.watching.say_no_watches.Goals as goal
 

@@ -1,11 +1,11 @@
 use Rattle.std.proofs.Common.{ℕ, Err, ap, refl}
 use Rattle.std.specs.Prelude.{Vec}
 use Rattle.std.specs.declared.alloc.Global.{Global}
-use Rattle.pz_run.specs.Files.{model_file, watch_file}
-use Rattle.pz_run.specs.devices.TwoFiles.{PrintsClosed, no_model}
+use Rattle.pz_run_output.specs.Files.{model_file, watch_file}
+use Rattle.pz_run_output.specs.devices.TwoFiles.{PrintsClosed, no_model}
 use Rattle.pz_run.specs.devices.Judging.{PrintsWatches}
-use Rattle.pz_run.proofs.Unread.{not_fault, unread}
-use Rattle.pz_run.proofs.TwoAnswers.{from_text}
+use Rattle.pz_run_output.proofs.Unread.{not_fault, unread}
+use Rattle.pz_run_output.proofs.TwoAnswers.{from_text}
 use Rattle.pz_io.specs.Outside.{Entries}
 use Rattle.pz_run.specs.HandedOut.{OpenModelHandsOut, WatchFileHandsOut}
 use Rattle.pz_run.proofs.Handed.{first_hands, unread_hands}

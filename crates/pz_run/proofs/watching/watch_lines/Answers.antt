@@ -1,4 +1,4 @@
-use Rattle.pz_classes.specs.CheckedView.{checked_model}
+use Rattle.pz_bind.specs.pz_classes.CheckedView.{checked_model}
 use Rattle.std.proofs.Common.{refl}
 use Rattle.pz_run.proofs.Handed.{watched_hands, no_list_hands}
 use Rattle.pz_run.proofs.watching.watch_lines.Goals as goal

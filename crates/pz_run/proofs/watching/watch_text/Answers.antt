@@ -1,12 +1,12 @@
 use Rattle.std.proofs.Common.{refl}
-use Rattle.pz_classes.specs.CheckedView.{checked_model}
-use Rattle.pz_run.specs.Files.{watch_file}
-use Rattle.pz_run.specs.Output.{PrintsJudged}
-use Rattle.pz_run.specs.devices.TwoFiles.{refuses, goes_on}
+use Rattle.pz_bind.specs.pz_classes.CheckedView.{checked_model}
+use Rattle.pz_run_output.specs.Files.{watch_file}
+use Rattle.pz_run_output.specs.Output.{PrintsJudged}
+use Rattle.pz_run_output.specs.devices.TwoFiles.{refuses, goes_on}
 use Rattle.pz_run.specs.devices.Judging.{PrintsWatches}
-use Rattle.pz_run.proofs.TwoAnswers.{reading_by, closed_said}
+use Rattle.pz_run_output.proofs.TwoAnswers.{reading_by, closed_said}
 use Rattle.pz_run.proofs.Judgings.{of_judged}
-use Rattle.pz_run_reading.specs.Openings.{IsOpenModelOf}
+use Rattle.pz_run_output.specs.pz_run_lines.pz_run_reading.Openings.{IsOpenModelOf}
 use Rattle.pz_run.specs.HandedOut.{WatchFileHandsOut, of_model}
 use Rattle.pz_run.proofs.Handed.{refusal_hands}
 use Rattle.pz_run.proofs.watching.watch_text.Goals as goal

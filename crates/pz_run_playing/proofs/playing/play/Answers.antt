@@ -8,8 +8,8 @@ use Rattle.pz_term_simulator.specs.Simulations.{setting_in, model_in, clock_in}
 use Rattle.pz_run_playing.specs.Policies.{resolver_of, policy_of}
 use Rattle.pz_run_playing.specs.devices.Hearing.{Manner, saying, Hears, HasHeard}
 use Rattle.pz_run_playing.specs.devices.Going.{CutShort, Ended, PlayedThrough, BrokenOff}
-use Rattle.pz_syntax.specs.ModelText.{HasFewMarks}
-use Rattle.pz_classes.specs.Soundness.{IsSound}
+use Rattle.pz_rules.specs.pz_syntax.ModelText.{HasFewMarks}
+use Rattle.pz_rules.specs.pz_classes_rules.Soundness.{IsSound}
 use Rattle.pz_rules.specs.Clocks.{most_actions}
 use Rattle.pz_run_playing.proofs.Heard.{heard_none}
 use Rattle.pz_run_playing.proofs.WholeRuns.{start_in, ready_at, header_cut, lines_cut, lines_ended}

@@ -1,14 +1,14 @@
 use Rattle.std.proofs.Common.{◌≡◌, Ok, sym, ap, subst, ◌∙◌}
 use Rattle.pz_rules.specs.Settings.{Setting}
 use Rattle.pz_rules.specs.Ports.{HasWires}
-use Rattle.pz_trace.specs.declared.ending.Ending.{Ending}
-use Rattle.pz_trace.specs.declared.ending.Ending.TheVariants.{Stop}
+use Rattle.pz_watch_points.specs.pz_trace.declared.ending.Ending.{Ending}
+use Rattle.pz_watch_points.specs.pz_trace.declared.ending.Ending.TheVariants.{Stop}
 use Rattle.pz_run_playing.specs.declared.finale.Finale.{Finale}
 use Rattle.pz_run_playing.specs.declared.finale.Finale.TheVariants.{Ended}
 use Rattle.pz_run_playing.specs.Playing.{Plays, trace, menu}
 use Rattle.pz_run_playing.specs.Policies.{resolver_of, policy_of}
 use Rattle.pz_term_simulator.specs.Simulations.{model_in}
-use Rattle.pz_classes.specs.Soundness.{IsSound}
+use Rattle.pz_rules.specs.pz_classes_rules.Soundness.{IsSound}
 use Rattle.pz_run_playing.proofs.WholeRuns.{its_setting, menu_broken, menu_cut, menu_told, menu_alone}
 use Rattle.pz_run_playing.proofs.runs.play_menu.Goals as goal
 

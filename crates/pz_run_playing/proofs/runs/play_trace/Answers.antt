@@ -1,7 +1,7 @@
 use Rattle.std.proofs.Common.{◌≡◌, subst}
 use Rattle.std.specs.Prelude.{IfOk}
 use Rattle.pz_rules.specs.Settings.{Setting}
-use Rattle.pz_trace.specs.TraceText.{trace_header}
+use Rattle.pz_watch_points.specs.pz_trace.TraceText.{trace_header}
 use Rattle.pz_run_playing.specs.Policies.{resolver_of, policy_of}
 use Rattle.pz_run_playing.proofs.WholeRuns.{its_setting, plays_trace}
 use Rattle.pz_run_playing.proofs.runs.play_trace.Goals as goal

@@ -1,6 +1,6 @@
 use Rattle.std.proofs.Common.{Ok}
 use Rattle.pz_term_simulator.specs.Simulations.{setting_in, model_in}
-use Rattle.pz_trace.specs.TraceText.{trace_header}
+use Rattle.pz_watch_points.specs.pz_trace.TraceText.{trace_header}
 use Rattle.pz_run_playing.specs.Policies.{resolver_of, policy_of}
 use Rattle.pz_run_playing.specs.devices.Hearing.{with_watches}
 use Rattle.pz_run_playing.proofs.WholeRuns.{at_its_start, through_named, watched_broken, watched_cut, watched_told, watched_there}

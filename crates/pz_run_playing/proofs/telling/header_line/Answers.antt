@@ -1,8 +1,8 @@
 use Rattle.std.proofs.Common.{◌≡◌, subst, ap, ◌∙◌}
 use Rattle.std.specs.Prelude.{IfOk}
-use Rattle.pz_trace.specs.declared.forms.Form.{Form}
-use Rattle.pz_trace.specs.Lines.{header}
-use Rattle.pz_trace.specs.Forms.{form_of}
+use Rattle.pz_watch_points.specs.pz_trace.declared.forms.Form.{Form}
+use Rattle.pz_watch_points.specs.pz_trace.Lines.{header}
+use Rattle.pz_watch_points.specs.pz_trace.Forms.{form_of}
 use Rattle.pz_run_playing.proofs.telling.header_line.Goals as goal
 
 pub returns : goal.returns

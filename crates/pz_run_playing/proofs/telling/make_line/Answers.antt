@@ -1,7 +1,7 @@
 use Rattle.std.proofs.Common.{◌≡◌, ◌∙◌, refl}
 use Rattle.std.proofs.lemmas.Result.{on_ok_weaker}
-use Rattle.pz_classes.specs.CheckedView.{checked_model}
-use Rattle.pz_trace.specs.Lines.{action_line}
+use Rattle.pz_bind.specs.pz_classes.CheckedView.{checked_model}
+use Rattle.pz_watch_points.specs.pz_trace.Lines.{action_line}
 use Rattle.pz_term_simulator.specs.Simulations.{model_in, clock_in}
 use Rattle.pz_run_playing.proofs.Simulated.{clock_of_actions, named_here}
 use Rattle.pz_run_playing.proofs.Told.{same_line, put_alone}

@@ -1,6 +1,6 @@
 use Rattle.std.proofs.Common.{◌≡◌, ◌∙◌}
 use Rattle.std.proofs.lemmas.Result.{IfOk-weaker}
-use Rattle.pz_classes.specs.CheckedView.{checked_model}
+use Rattle.pz_bind.specs.pz_classes.CheckedView.{checked_model}
 use Rattle.pz_rules.specs.declared.action.Action.{Action}
 use Rattle.pz_term_simulator.specs.Simulations.{model_in, IsOffer}
 use Rattle.pz_run_playing.specs.Menus.{offer_line}

@@ -2,7 +2,7 @@ use Rattle.std.proofs.Common.{subst}
 use Rattle.std.specs.Result.{result_err}
 use Rattle.pz_io.specs.Writing.{Wrote}
 use Rattle.pz_rules.specs.declared.action.Action.{Action}
-use Rattle.pz_trace.specs.Lines.{action_line}
+use Rattle.pz_watch_points.specs.pz_trace.Lines.{action_line}
 use Rattle.pz_term_simulator.specs.Simulations.{model_in, clock_in}
 use Rattle.pz_run_playing.proofs.Written.{none_written}
 use Rattle.pz_run_playing.proofs.telling.tell_action.Goals as goal

@@ -1,5 +1,5 @@
 use Rattle.std.proofs.Common.{◌≡◌}
-use Rattle.pz_classes.specs.CheckedView.{checked_model}
+use Rattle.pz_bind.specs.pz_classes.CheckedView.{checked_model}
 use Rattle.pz_run_reading.specs.declared.flat_model.FlatModel.{FlatModel}
 use Rattle.pz_run_reading.proofs.Causes.{wanting_on}
 use Rattle.pz_run_reading.proofs.flattening.read_net.Goals as goal

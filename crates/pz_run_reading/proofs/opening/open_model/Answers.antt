@@ -1,5 +1,5 @@
 use Rattle.std.proofs.Common.{sym, subst}
-use Rattle.pz_classes.specs.CheckedView.{checked_model}
+use Rattle.pz_bind.specs.pz_classes.CheckedView.{checked_model}
 use Rattle.pz_run_reading.specs.Openings.{IsOpeningRefusal}
 use Rattle.pz_run_reading.specs.Answers.{OnRefused}
 use Rattle.pz_run_reading.proofs.Opened.{opening_cause}

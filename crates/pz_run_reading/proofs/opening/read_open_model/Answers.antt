@@ -1,6 +1,6 @@
 use Rattle.std.proofs.Common.{◌≡◌, sym, subst}
-use Rattle.pz_classes.specs.CheckedView.{checked_model}
-use Rattle.pz_classes.specs.declared.checked.Checked.{Checked}
+use Rattle.pz_bind.specs.pz_classes.CheckedView.{checked_model}
+use Rattle.pz_bind.specs.pz_classes.declared.checked.Checked.{Checked}
 use Rattle.pz_classes_openings.specs.OpeningRules.{Opens}
 use Rattle.pz_run_reading.specs.Openings.{IsRefusedToOpen}
 use Rattle.pz_run_reading.specs.Answers.{OnRefused}

@@ -1,5 +1,5 @@
 use Rattle.std.proofs.Common.{sym, subst}
-use Rattle.pz_syntax.specs.ClassView.{model_view}
+use Rattle.pz_bind_rules.specs.pz_syntax.ClassView.{model_view}
 use Rattle.pz_run_reading.specs.devices.Errors.{of_checker}
 use Rattle.pz_run_reading.specs.devices.Reading.{IsViolationOf}
 use Rattle.pz_run_reading.specs.Answers.{OnRefused}

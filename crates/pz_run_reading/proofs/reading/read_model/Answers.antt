@@ -1,8 +1,8 @@
 use Rattle.std.proofs.Common.{◌≡◌}
-use Rattle.pz_classes.specs.CheckedView.{checked_model}
-use Rattle.pz_classes.specs.declared.checked.Checked.{Checked}
+use Rattle.pz_bind.specs.pz_classes.CheckedView.{checked_model}
+use Rattle.pz_bind.specs.pz_classes.declared.checked.Checked.{Checked}
 use Rattle.pz_run_reading.proofs.Causes.{wanting_on}
-use Rattle.pz_syntax.specs.ClassView.{model_view}
+use Rattle.pz_bind_rules.specs.pz_syntax.ClassView.{model_view}
 use Rattle.pz_run_reading.proofs.Trees.{tree_of}
 use Rattle.pz_run_reading.proofs.Found.{found_model, refused_model, only_model}
 use Rattle.pz_run_reading.proofs.FewMarks.{few_marks, small_model}

@@ -1,7 +1,7 @@
 use Rattle.std.proofs.Common.{◌≡◌, sym, subst, ap}
-use Rattle.pz_syntax.specs.declared.tokens.Pos.{Pos}
-use Rattle.pz_syntax.specs.declared.clusters.Model.{Model}
-use Rattle.pz_syntax.specs.ClassView.{model_view}
+use Rattle.pz_bind_rules.specs.pz_syntax.declared.tokens.Pos.{Pos}
+use Rattle.pz_bind_rules.specs.pz_syntax.declared.clusters.Model.{Model}
+use Rattle.pz_bind_rules.specs.pz_syntax.ClassView.{model_view}
 use Rattle.pz_lexer.specs.Tokens.{AreTokens}
 use Rattle.pz_parser.specs.Cuts.{Refuses}
 use Rattle.pz_run_reading.specs.Refusals.{IsRefused}

@@ -1,7 +1,7 @@
 use Rattle.std.proofs.Common.{◌≡◌, ap, ◌∙◌, ℕ}
 use Rattle.std.proofs.lemmas.Result.{on_ok_weaker}
-use Rattle.pz_syntax.specs.Classes.{ModelTree}
-use Rattle.pz_classes.specs.CheckedView.{checked_model}
+use Rattle.pz_rules.specs.pz_syntax.Classes.{ModelTree}
+use Rattle.pz_bind.specs.pz_classes.CheckedView.{checked_model}
 use Rattle.pz_rules.specs.declared.action.Action.{Action}
 use Rattle.pz_trace.specs.Lines.{action_line}
 use Rattle.pz_term_simulator.specs.Simulations.{model_in, clock_in}

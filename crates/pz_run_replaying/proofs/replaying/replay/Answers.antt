@@ -1,5 +1,5 @@
 use Rattle.std.proofs.Common.{subst, ◌∙◌}
-use Rattle.pz_classes.specs.Soundness.{IsSound}
+use Rattle.pz_rules.specs.pz_classes_rules.Soundness.{IsSound}
 use Rattle.pz_run_replaying.proofs.Openings.{replayed_so, some_outcome}
 use Rattle.pz_run_replaying.proofs.replaying.replay.Goals as goal
 

@@ -4,8 +4,8 @@ use Rattle.pz_io.specs.declared.writing.Halt.TheVariants.{NoMemory}
 use Rattle.pz_trace.specs.TraceText.{trace_header}
 use Rattle.pz_term_simulator.specs.Simulations.{setting_in}
 use Rattle.pz_run_replaying.specs.devices.Fronts.{StartsWith}
-use Rattle.pz_syntax.specs.ModelText.{HasFewMarks}
-use Rattle.pz_classes.specs.Soundness.{IsSound}
+use Rattle.pz_rules.specs.pz_syntax.ModelText.{HasFewMarks}
+use Rattle.pz_rules.specs.pz_classes_rules.Soundness.{IsSound}
 use Rattle.pz_rules.specs.Clocks.{most_actions}
 use Rattle.pz_run_replaying.proofs.Written.{err_is}
 use Rattle.pz_run_replaying.proofs.Openings.{starts_in, ready_there, header_wanting, header_refused, header_cut, header_followed}

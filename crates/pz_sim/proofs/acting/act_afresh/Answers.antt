@@ -2,8 +2,8 @@ use Rattle.std.proofs.Common.{Result, subst}
 use Rattle.std.specs.Prelude.{⊤, OnOk}
 use Rattle.std.proofs.Math.Logic.{∥∥₁_elim, ∥∥₁_map}
 use Rattle.std.proofs.Math.Nat.{ℕ_set}
-use Rattle.pz_classes.specs.CheckedView.{checked_model}
-use Rattle.pz_offer.specs.declared.trouble.Trouble.{Trouble}
+use Rattle.pz_bind.specs.pz_classes.CheckedView.{checked_model}
+use Rattle.pz_rules.specs.pz_offer.declared.trouble.Trouble.{Trouble}
 use Rattle.pz_tree.specs.Deeds.{deed, Leaves}
 use Rattle.pz_tree.specs.Acting.{answered, LeavesSoon}
 use Rattle.pz_tree.specs.Trees.{at_in, term_in, process_in}

@@ -1,7 +1,7 @@
 use Rattle.std.proofs.Common.{◌≡◌, Result, Ok, Err, length, refl, subst, arith}
 use Rattle.std.specs.Prelude.{⊤, OnOk, OnErr, slice_set}
 use Rattle.std.proofs.Math.Logic.{∥∥₁_map}
-use Rattle.pz_offer.specs.declared.trouble.Trouble.{Trouble}
+use Rattle.pz_rules.specs.pz_offer.declared.trouble.Trouble.{Trouble}
 use Rattle.pz_rules.specs.declared.action.Action.TheVariants.{Internal}
 use Rattle.pz_tree.specs.Deeds.{CanAct}
 use Rattle.pz_tree.specs.declared.tree.Tree.{Tree}

@@ -1,6 +1,6 @@
 use Rattle.std.proofs.Common.{[], subst}
 use Rattle.std.proofs.Math.Logic.{∥∥₁_elim, ∥∥₁_map}
-use Rattle.pz_classes.specs.Soundness.{IsSound}
+use Rattle.pz_rules.specs.pz_classes_rules.Soundness.{IsSound}
 use Rattle.pz_rules.specs.InternalActions.{Performs}
 use Rattle.pz_tree.specs.Deeds.{CanAct}
 use Rattle.pz_sim.specs.devices.Acting.{model_at, setting_at}

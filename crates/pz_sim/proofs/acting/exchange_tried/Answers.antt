@@ -1,7 +1,7 @@
 use Rattle.std.proofs.Common.{Result, Ok, refl, subst}
 use Rattle.std.specs.Prelude.{⊤, OnOk}
-use Rattle.pz_classes.specs.Soundness.{IsSound}
-use Rattle.pz_offer.specs.declared.trouble.Trouble.{Trouble}
+use Rattle.pz_rules.specs.pz_classes_rules.Soundness.{IsSound}
+use Rattle.pz_rules.specs.pz_offer.declared.trouble.Trouble.{Trouble}
 use Rattle.pz_rules.specs.Messages.{Takes}
 use Rattle.pz_tree.specs.Deeds.{CanReceive}
 use Rattle.pz_sim.specs.devices.Acting.{model_at, setting_at, HasActed, HasActedSoon}

@@ -4,8 +4,8 @@ use Rattle.std.proofs.lemmas.Option.{get_or_from_slice_get}
 use Rattle.std.proofs.Math.Logic.{∥∥₁_elim, ∥∥₁_map}
 use Rattle.std.proofs.Math.Nat.{ℕ_set}
 use Rattle.pz_tree.specs.Deeds.{CanSend}
-use Rattle.pz_copy.specs.Parcels.{ParcelView}
-use Rattle.pz_tree_regrowing.specs.Costs.{on_way}
+use Rattle.pz_rules.specs.pz_copy.Parcels.{ParcelView}
+use Rattle.pz_tree.specs.pz_tree_regrowing.Costs.{on_way}
 use Rattle.pz_tree.specs.declared.tree.Tree.{Tree}
 use Rattle.pz_tree.specs.Trees.{term_in}
 use Rattle.pz_sim.specs.devices.Acting.{model_at, setting_at, MayAct}

@@ -1,5 +1,5 @@
 use Rattle.std.proofs.Common.{subst, arith}
-use Rattle.pz_classes.specs.Soundness.{IsSound}
+use Rattle.pz_rules.specs.pz_classes_rules.Soundness.{IsSound}
 use Rattle.pz_rules.specs.declared.action.Action.TheVariants.{Internal}
 use Rattle.pz_sim_totals.specs.Sums.{all}
 use Rattle.pz_sim_laws.specs.Deciding.{offers_in}

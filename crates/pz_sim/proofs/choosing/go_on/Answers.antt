@@ -1,7 +1,7 @@
 use Rattle.std.proofs.Common.{◌≡◌, List, Result, sym, subst}
 use Rattle.std.specs.Prelude.{⊤, OnOk, OnErr}
 use Rattle.std.proofs.Math.Logic.{∥∥₁_map}
-use Rattle.pz_offer.specs.declared.trouble.Trouble.{Trouble}
+use Rattle.pz_rules.specs.pz_offer.declared.trouble.Trouble.{Trouble}
 use Rattle.pz_sim_totals.specs.Sums.{all}
 use Rattle.pz_sim_laws.specs.Deciding.{offers_in}
 use Rattle.pz_sim_laws.specs.Leading.{LeadsTo}

@@ -1,6 +1,6 @@
 use Rattle.std.proofs.Common.{◌≡◌, ◌-◌, map, subst}
 use Rattle.std.specs.Prelude.{slice_get}
-use Rattle.pz_classes.specs.Soundness.{IsSound}
+use Rattle.pz_rules.specs.pz_classes_rules.Soundness.{IsSound}
 use Rattle.pz_match.specs.Pairs.{taken, offered}
 use Rattle.pz_sim_totals.specs.declared.total.Total.{Total}
 use Rattle.pz_sim_totals.specs.Sums.{all}

@@ -1,5 +1,5 @@
 use Rattle.std.proofs.Common.{◌≡◌, ◌≤◌, ◌∙◌, ◌+◌, ◌*◌, ℕ, true, List, sym, ap, subst, arith}
-use Rattle.pz_classes.specs.Soundness.{IsSound}
+use Rattle.pz_rules.specs.pz_classes_rules.Soundness.{IsSound}
 use Rattle.pz_sim.specs.Costs.{visited_all, names_at}
 use Rattle.pz_sim.specs.devices.Acting.{model_at, setting_at}
 use Rattle.pz_sim.specs.devices.Passing.{MayPass, HavePassed, own_total, AreRetold}

@@ -1,5 +1,5 @@
 use Rattle.std.proofs.Common.{◌≤◌, ◌+◌, ◌*◌, List, ◌≡◌, ℕ, length, subst, arith}
-use Rattle.pz_classes.specs.CheckedView.{checked_model}
+use Rattle.pz_bind.specs.pz_classes.CheckedView.{checked_model}
 use Rattle.std.proofs.lemmas.List.{take_all}
 use Rattle.pz_tree.specs.declared.tree.Tree.{Tree}
 use Rattle.pz_sim.specs.Costs.{visited_all}

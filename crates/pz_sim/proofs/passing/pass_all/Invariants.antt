@@ -1,5 +1,5 @@
 use Rattle.std.proofs.Common.{◌≡◌, ◌≤◌, ◌+◌, ◌*◌, map, take}
-use Rattle.pz_classes.specs.CheckedView.{checked_model}
+use Rattle.pz_bind.specs.pz_classes.CheckedView.{checked_model}
 use Rattle.pz_sim.specs.Costs.{visited_all}
 use Rattle.pz_sim.specs.devices.Passing.{HavePassed, own_total}
 use Rattle.pz_sim.proofs.passing.pass_all.Given as goal

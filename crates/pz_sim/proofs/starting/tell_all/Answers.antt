@@ -1,5 +1,5 @@
 use Rattle.std.proofs.Common.{◌∙◌, refl, arith}
-use Rattle.pz_classes.specs.CheckedView.{checked_model}
+use Rattle.pz_bind.specs.pz_classes.CheckedView.{checked_model}
 use Rattle.pz_sim.proofs.Spoken.{none_asked, all_asked, may_tell, one_told}
 use Rattle.pz_sim.proofs.starting.tell_all.Goals as goal
 

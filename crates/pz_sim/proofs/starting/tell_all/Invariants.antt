@@ -1,5 +1,5 @@
 use Rattle.std.proofs.Common.{◌≡◌}
-use Rattle.pz_classes.specs.CheckedView.{checked_model}
+use Rattle.pz_bind.specs.pz_classes.CheckedView.{checked_model}
 use Rattle.pz_sim.specs.devices.Tables.{IsTable}
 use Rattle.pz_sim.proofs.Spoken.{staged}
 use Rattle.pz_sim.proofs.starting.tell_all.Given as goal

@@ -2,9 +2,9 @@ use Rattle.std.proofs.Common.{◌≡◌, ◌∷◌, ◌∙◌, ℕ, Some, ap, sy
 use Rattle.std.specs.Prelude.{slice_get}
 use Rattle.std.specs.Vec.Iter.{into_iter_items}
 use Rattle.std.proofs.lemmas.List.{nil_from_length}
-use Rattle.pz_classes.specs.CheckedView.{checked_model}
+use Rattle.pz_bind.specs.pz_classes.CheckedView.{checked_model}
 use Rattle.pz_bind_levels.specs.Places.{Address}
-use Rattle.pz_bind.specs.Nest.{processes, class_at}
+use Rattle.pz_rules.specs.pz_bind_rules.Nest.{processes, class_at}
 use Rattle.pz_bind.specs.NetView.{HasProcess}
 use Rattle.pz_rules.specs.Starting.{StartsAs}
 use Rattle.pz_tree.specs.pz_term_processes.Standing.{setting_of, process_view}

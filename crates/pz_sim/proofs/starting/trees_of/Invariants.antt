@@ -1,6 +1,6 @@
 use Rattle.std.proofs.Common.{◌≡◌, length}
 use Rattle.std.specs.Vec.Iter.{into_iter_items, into_iter_len}
-use Rattle.pz_classes.specs.CheckedView.{checked_model}
+use Rattle.pz_bind.specs.pz_classes.CheckedView.{checked_model}
 use Rattle.pz_tree.specs.pz_term_processes.Standing.{setting_of}
 use Rattle.pz_sim.proofs.Begun.{Planted}
 use Rattle.pz_sim.proofs.starting.trees_of.Given as goal

@@ -1,6 +1,6 @@
 use Rattle.std.proofs.Common.{◌≡◌, length}
 use Rattle.std.specs.Prelude.{All}
-use Rattle.pz_syntax.specs.Classes.{ModelTree}
+use Rattle.pz_rules.specs.pz_syntax.Classes.{ModelTree}
 use Rattle.pz_tree.specs.Trees.{IsFresh}
 use Rattle.pz_sim.proofs.Summed.{summed}
 use Rattle.pz_sim.proofs.summing.totals_in.Given as goal

@@ -3,7 +3,7 @@ use Rattle.std.proofs.lemmas.Option.{same_Some}
 use Rattle.pz_tree.specs.declared.tree.Tree.{Tree}
 use Rattle.pz_tree.specs.Trees.{IsFresh}
 use Rattle.pz_sim_laws.specs.Offering.{AreSendOffers, AreReceiveOffers}
-use Rattle.pz_classes.specs.CheckedView.{checked_model}
+use Rattle.pz_bind.specs.pz_classes.CheckedView.{checked_model}
 use Rattle.pz_sim.specs.Members.{member_of}
 use Rattle.pz_sim.proofs.Outcomes.{on_ok6}
 use Rattle.pz_sim.proofs.Borrowed.{lent_same}

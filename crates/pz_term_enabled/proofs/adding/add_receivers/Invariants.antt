@@ -1,7 +1,7 @@
 use Rattle.std.proofs.Common.{◌≡◌, ◌++◌, length}
 use Rattle.std.specs.List.{All, filter_map}
 use Rattle.std.specs.Vec.Iter.{into_iter_items, into_iter_len}
-use Rattle.pz_syntax.specs.Classes.{ModelTree}
+use Rattle.pz_classes_code.specs.pz_syntax.Classes.{ModelTree}
 use Rattle.pz_term_enabled.specs.devices.Adding.{receiver_of}
 use Rattle.pz_term_enabled.specs.devices.Seen.{Wired, HasPort, wire_at}
 use Rattle.pz_term_enabled.proofs.adding.add_receivers.Given as goal

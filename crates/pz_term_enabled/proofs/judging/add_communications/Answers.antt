@@ -1,6 +1,6 @@
 use Rattle.std.proofs.Common.{List, sym, subst}
 use Rattle.std.proofs.lemmas.Result.{IfOk-weaker}
-use Rattle.pz_classes.specs.CheckedView.{checked_model}
+use Rattle.pz_bind.specs.pz_classes.CheckedView.{checked_model}
 use Rattle.pz_term_processes.specs.Standing.{setting_of, config_of}
 use Rattle.pz_term_matching.specs.declared.ends.Pair.{Pair}
 use Rattle.pz_term_matching.specs.Matches.{AreMatches}

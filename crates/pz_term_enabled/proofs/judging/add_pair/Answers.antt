@@ -1,6 +1,6 @@
 use Rattle.std.proofs.Common.{Bool, [], ◌∷◌, ◌++◌, Result, Ok, subst, refl, ap, ◌∙◌}
-use Rattle.pz_classes.specs.CheckedView.{checked_model}
-use Rattle.pz_offer.specs.declared.trouble.Trouble.{Trouble}
+use Rattle.pz_bind.specs.pz_classes.CheckedView.{checked_model}
+use Rattle.pz_rules.specs.pz_offer.declared.trouble.Trouble.{Trouble}
 use Rattle.pz_rules.specs.declared.action.Action.{Action}
 use Rattle.pz_rules.specs.Offers.{IsJudged}
 use Rattle.pz_term_processes.specs.Standing.{setting_of, config_of}

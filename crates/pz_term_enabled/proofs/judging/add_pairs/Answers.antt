@@ -1,5 +1,5 @@
 use Rattle.std.proofs.Common.{List, refl, sym, subst, ◌∙◌, rules}
-use Rattle.pz_classes.specs.CheckedView.{checked_model}
+use Rattle.pz_bind.specs.pz_classes.CheckedView.{checked_model}
 use Rattle.pz_term_processes.specs.declared.process.Process.{Process}
 use Rattle.pz_term_processes.specs.Standing.{setting_of, config_of}
 use Rattle.pz_term_matching.specs.declared.ends.Pair.{Pair}

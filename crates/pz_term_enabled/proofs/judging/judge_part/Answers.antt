@@ -1,7 +1,7 @@
 use Rattle.std.proofs.lemmas.Result.{IfOk-weaker}
 use Rattle.pz_rules.specs.Messages.{Judges}
 use Rattle.pz_rules.specs.View.{term_view}
-use Rattle.pz_part_queries.specs.Standpoints.{seen_from}
+use Rattle.pz_term_processes.specs.pz_part_queries.Standpoints.{seen_from}
 use Rattle.pz_term_enabled.specs.devices.Judged.{JudgesAt}
 use Rattle.pz_term_enabled.proofs.Verdicts.{may_act, receives_there, judges_at}
 use Rattle.pz_term_enabled.proofs.judging.judge_part.Goals as goal

@@ -1,7 +1,7 @@
 use Rattle.std.proofs.Common.{get_or}
 use Rattle.std.proofs.lemmas.Result.{IfOk-weaker}
-use Rattle.pz_classes.specs.CheckedView.{checked_model}
-use Rattle.pz_bind.specs.Nest.{class_at}
+use Rattle.pz_bind.specs.pz_classes.CheckedView.{checked_model}
+use Rattle.pz_rules.specs.pz_bind_rules.Nest.{class_at}
 use Rattle.pz_rules.specs.Offers.{IsJudged}
 use Rattle.pz_rules.specs.View.{term_view}
 use Rattle.pz_term_processes.specs.Standing.{setting_of, config_of, process_view}

@@ -1,6 +1,6 @@
 use Rattle.std.proofs.Common.{sym, ◌∙◌}
 use Rattle.std.proofs.lemmas.Result.{IfOk-weaker}
-use Rattle.pz_classes.specs.CheckedView.{checked_model}
+use Rattle.pz_bind.specs.pz_classes.CheckedView.{checked_model}
 use Rattle.pz_term_processes.specs.Standing.{setting_of, config_of}
 use Rattle.pz_term_enabled.specs.devices.Communications.{OfAll}
 use Rattle.pz_term_enabled.specs.devices.Deciding.{Decides}

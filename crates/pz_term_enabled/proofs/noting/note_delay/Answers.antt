@@ -1,10 +1,10 @@
 use Rattle.std.proofs.Common.{ℕ, Result, subst}
-use Rattle.pz_offer.specs.declared.trouble.Trouble.{Trouble}
+use Rattle.pz_rules.specs.pz_offer.declared.trouble.Trouble.{Trouble}
 use Rattle.pz_rules.specs.Evaluations.{Lasts}
 use Rattle.pz_classes_code.specs.CodeView as code
 use Rattle.pz_rules.specs.Terms as terms
-use Rattle.pz_syntax.specs.Statements as statements
-use Rattle.pz_part_queries.specs.Standpoints.{seen_from}
+use Rattle.pz_classes_code.specs.pz_syntax.Statements as statements
+use Rattle.pz_term_processes.specs.pz_part_queries.Standpoints.{seen_from}
 use Rattle.pz_term_enabled.proofs.Asks.{delay_waits, delay_troubled, time_few}
 use Rattle.pz_term_enabled.proofs.noting.note_delay.Goals as goal
 

@@ -1,5 +1,5 @@
 use Rattle.std.proofs.Common.{ap, ◌∙◌}
-use Rattle.pz_syntax.specs.declared.names.Id.{Id}
+use Rattle.pz_classes_code.specs.pz_syntax.declared.names.Id.{Id}
 use Rattle.pz_term_enabled.proofs.OnePart.{adds_one, grows_receive}
 use Rattle.pz_term_enabled.proofs.noting.note_receive.Goals as goal
 

@@ -1,12 +1,12 @@
 use Rattle.std.proofs.Common.{Result, subst, ap, ◌∙◌}
-use Rattle.pz_syntax.specs.declared.names.Id.{Id}
-use Rattle.pz_copy.specs.Parcels.{ParcelView}
-use Rattle.pz_offer.specs.declared.trouble.Trouble.{Trouble}
-use Rattle.pz_part_queries.specs.Parcels.{Packs}
+use Rattle.pz_classes_code.specs.pz_syntax.declared.names.Id.{Id}
+use Rattle.pz_rules.specs.pz_copy.Parcels.{ParcelView}
+use Rattle.pz_rules.specs.pz_offer.declared.trouble.Trouble.{Trouble}
+use Rattle.pz_term_processes.specs.pz_part_queries.Parcels.{Packs}
 use Rattle.pz_classes_code.specs.CodeView.{part_view}
 use Rattle.pz_rules.specs.Terms as terms
-use Rattle.pz_syntax.specs.Statements as statements
-use Rattle.pz_part_queries.specs.Standpoints.{seen_from}
+use Rattle.pz_classes_code.specs.pz_syntax.Statements as statements
+use Rattle.pz_term_processes.specs.pz_part_queries.Standpoints.{seen_from}
 use Rattle.pz_term_enabled.proofs.Asks.{send_added, send_troubled}
 use Rattle.pz_term_enabled.proofs.noting.note_send.Goals as goal
 

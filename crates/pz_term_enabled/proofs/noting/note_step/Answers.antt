@@ -1,7 +1,7 @@
 use Rattle.std.proofs.Common.{sym, ◌∙◌}
 use Rattle.pz_classes_code.specs.StepView.{view}
 use Rattle.pz_rules.specs.Terms as terms
-use Rattle.pz_part_queries.specs.Standpoints.{seen_from}
+use Rattle.pz_term_processes.specs.pz_part_queries.Standpoints.{seen_from}
 use Rattle.pz_term_enabled.proofs.Notes.{adds_none, adds_after}
 use Rattle.pz_term_enabled.proofs.Forms.{notes_Skip, notes_Eval, notes_Block, notes_If, notes_While, notes_Call, notes_Group, notes_Guard, notes_Par, notes_Sel, notes_Abort, notes_Interrupt, notes_Receive}
 use Rattle.pz_term_enabled.proofs.noting.note_step.Goals as goal

@@ -1,4 +1,4 @@
-use Rattle.pz_classes.specs.CheckedView.{checked_model}
+use Rattle.pz_bind.specs.pz_classes.CheckedView.{checked_model}
 use Rattle.pz_term_processes.specs.Standing.{setting_of, config_of}
 use Rattle.pz_term_enabled.proofs.Whole.{none_surveyed}
 use Rattle.pz_term_enabled.proofs.surveying.survey.Goals as goal

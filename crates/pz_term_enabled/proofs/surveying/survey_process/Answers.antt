@@ -1,5 +1,5 @@
 use Rattle.std.proofs.lemmas.Result.{on_ok_weaker}
-use Rattle.pz_bind.specs.Nest.{class_at}
+use Rattle.pz_rules.specs.pz_bind_rules.Nest.{class_at}
 use Rattle.pz_rules.specs.Ports.{HasWires}
 use Rattle.pz_term_enabled.proofs.Further.{WalkLaws}
 use Rattle.pz_term_enabled.proofs.Seeing.{wired, sends_fit, receives_fit, process_surveyed}

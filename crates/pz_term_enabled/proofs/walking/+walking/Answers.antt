@@ -1,12 +1,12 @@
 use Rattle.std.proofs.Common.{◌∙◌, Bool, Result, Ok, refl, sym, ap}
 use Rattle.std.proofs.lemmas.Result.{on_ok_weaker}
-use Rattle.pz_offer.specs.declared.trouble.Trouble.{Trouble}
+use Rattle.pz_rules.specs.pz_offer.declared.trouble.Trouble.{Trouble}
 use Rattle.pz_classes_code.specs.CodeView as code
-use Rattle.pz_state.specs.Marks.{Seen}
+use Rattle.pz_rules.specs.pz_state.Marks.{Seen}
 use Rattle.pz_rules.specs.Terms as terms
 use Rattle.pz_rules.specs.View.{term_view}
 use Rattle.pz_rules.specs.devices.Walk.{active_parts}
-use Rattle.pz_part_queries.specs.Standpoints.{seen_from}
+use Rattle.pz_term_processes.specs.pz_part_queries.Standpoints.{seen_from}
 use Rattle.pz_term_enabled.proofs.Notes.{adds_under}
 use Rattle.pz_term_enabled.proofs.Walks.{guard_closed, guard_troubled, troubled_guard}
 use Rattle.pz_term_enabled.proofs.Moved.{both_added, next_added, behind_added}

@@ -1,9 +1,9 @@
 use Rattle.std.proofs.Common.{◌≡◌, ◌+◌, ◌*◌, ℕ, max, take}
-use Rattle.pz_syntax.specs.Classes.{ModelTree}
+use Rattle.pz_classes_code.specs.pz_syntax.Classes.{ModelTree}
 use Rattle.pz_rules.proofs.term.Term.TheLaws.{the_size}
 use Rattle.pz_rules.specs.View.{terms_view}
 use Rattle.pz_rules.specs.devices.Walk.{active_children}
-use Rattle.pz_part_queries.specs.Standpoints.{Knows, seen_from}
+use Rattle.pz_term_processes.specs.pz_part_queries.Standpoints.{Knows, seen_from}
 use Rattle.pz_term_enabled.specs.devices.Listings.{Adds}
 use Rattle.pz_term_enabled.proofs.walking.+walking.Given as goal
 

@@ -1,5 +1,5 @@
 use Rattle.pz_rules.specs.View.{term_view}
-use Rattle.pz_part_queries.specs.Standpoints.{seen_from}
+use Rattle.pz_term_processes.specs.pz_part_queries.Standpoints.{seen_from}
 use Rattle.pz_term_enabled.proofs.Moved.{walked_at}
 use Rattle.pz_term_enabled.proofs.walking.walk.Goals as goal
 

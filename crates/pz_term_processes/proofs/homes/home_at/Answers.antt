@@ -1,7 +1,7 @@
 use Rattle.std.proofs.Common.{ℕ, sym, subst, ap, ◌∙◌}
-use Rattle.pz_value.specs.declared.value.ClassId.{ClassId}
-use Rattle.pz_classes.specs.CheckedView.{checked_model}
-use Rattle.pz_classes.specs.Tables.{HasClass}
+use Rattle.pz_classes_code.specs.pz_value.declared.value.ClassId.{ClassId}
+use Rattle.pz_bind.specs.pz_classes.CheckedView.{checked_model}
+use Rattle.pz_bind.specs.pz_classes.Tables.{HasClass}
 use Rattle.pz_rules.specs.Settings as rules
 use Rattle.pz_term_processes.proofs.ProcessClasses.{class_is, process_class}
 use Rattle.pz_term_processes.proofs.homes.home_at.Goals as goal

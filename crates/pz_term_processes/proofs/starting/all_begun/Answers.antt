@@ -1,5 +1,5 @@
 use Rattle.std.proofs.Common.{◌+◌, sym, subst, List, arith}
-use Rattle.pz_classes.specs.CheckedView.{checked_model}
+use Rattle.pz_bind.specs.pz_classes.CheckedView.{checked_model}
 use Rattle.pz_term_processes.specs.declared.process.Process.{Process}
 use Rattle.pz_term_processes.proofs.Starts.{AreStarted, none_started, next_started, all_started, counted}
 use Rattle.pz_term_processes.proofs.starting.all_begun.Goals as goal

@@ -1,4 +1,4 @@
-use Rattle.pz_classes.specs.CheckedView.{checked_model}
+use Rattle.pz_bind.specs.pz_classes.CheckedView.{checked_model}
 use Rattle.pz_term_processes.proofs.Starts.{AreStarted}
 use Rattle.pz_term_processes.proofs.starting.all_begun.Given as goal
 

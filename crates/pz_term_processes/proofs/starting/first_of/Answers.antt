@@ -1,14 +1,14 @@
 use Rattle.std.proofs.Common.{List, sym, ap, subst, ◌∙◌}
 use Rattle.std.specs.Prelude.{All}
-use Rattle.pz_value.specs.declared.value.Value.{Value}
-use Rattle.pz_state.specs.References.{RefersWithin}
-use Rattle.pz_state.specs.States.{initial}
-use Rattle.pz_state.specs.Marks.{Seen}
+use Rattle.pz_classes_code.specs.pz_value.declared.value.Value.{Value}
+use Rattle.pz_rules.specs.pz_state.References.{RefersWithin}
+use Rattle.pz_rules.specs.pz_state.States.{initial}
+use Rattle.pz_rules.specs.pz_state.Marks.{Seen}
 use Rattle.std.specs.Option.{option_map, option_copied}
 use Rattle.pz_classes_code.specs.StepView as step
-use Rattle.pz_classes.specs.CheckedView.{checked_model}
+use Rattle.pz_bind.specs.pz_classes.CheckedView.{checked_model}
 use Rattle.pz_rules.specs.View.{term_view}
-use Rattle.pz_part_opening.specs.Homes.{home_view}
+use Rattle.pz_part_actions.specs.pz_part_opening.Homes.{home_view}
 use Rattle.pz_term_processes.proofs.First.{plain_values, starts_as}
 use Rattle.pz_term_processes.proofs.starting.first_of.Goals as goal
 

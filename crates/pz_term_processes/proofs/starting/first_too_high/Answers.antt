@@ -1,6 +1,6 @@
 use Rattle.std.proofs.Common.{arith}
-use Rattle.pz_classes.specs.CheckedView.{checked_model}
-use Rattle.pz_bind.specs.Nest.{processes}
+use Rattle.pz_bind.specs.pz_classes.CheckedView.{checked_model}
+use Rattle.pz_rules.specs.pz_bind_rules.Nest.{processes}
 use Rattle.pz_term_processes.specs.Standing.{setting_of}
 use Rattle.pz_term_processes.specs.devices.Beginnings.{BeginsLow, BeginsHigh}
 use Rattle.pz_term_processes.proofs.First.{there}

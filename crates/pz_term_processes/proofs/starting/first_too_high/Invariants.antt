@@ -1,4 +1,4 @@
-use Rattle.pz_classes.specs.CheckedView.{checked_model}
+use Rattle.pz_bind.specs.pz_classes.CheckedView.{checked_model}
 use Rattle.pz_term_processes.specs.Standing.{setting_of}
 use Rattle.pz_term_processes.proofs.Beginnings.{AllBeginLow}
 use Rattle.pz_term_processes.proofs.starting.first_too_high.Given as goal

@@ -1,9 +1,9 @@
 use Rattle.std.proofs.Common.{refl, sym, ap, ◌∙◌}
 use Rattle.std.specs.Option.{option_map, option_copied}
 use Rattle.pz_classes_code.specs.StepView as step
-use Rattle.pz_classes.specs.CheckedView.{checked_model}
-use Rattle.pz_offer.specs.declared.trouble.Trouble.TheVariants.{High}
-use Rattle.pz_part_opening.specs.Homes.{home_view}
+use Rattle.pz_bind.specs.pz_classes.CheckedView.{checked_model}
+use Rattle.pz_rules.specs.pz_offer.declared.trouble.Trouble.TheVariants.{High}
+use Rattle.pz_part_actions.specs.pz_part_opening.Homes.{home_view}
 use Rattle.pz_term_processes.specs.Standing.{setting_of}
 use Rattle.pz_term_processes.proofs.First.{call_is}
 use Rattle.pz_term_processes.proofs.Beginnings.{begins_low, begins_high}

@@ -1,6 +1,6 @@
 use Rattle.std.proofs.lemmas.Result.{IfOk-weaker}
 use Rattle.pz_rules.specs.View.{term_view}
-use Rattle.pz_part_opening.specs.Homes.{home_view}
+use Rattle.pz_term_around.specs.pz_part_opening.Homes.{home_view}
 use Rattle.pz_term_residual.proofs.Outward.{round_sequence, round_frame, round_handling}
 use Rattle.pz_term_residual.proofs.levels.put_around.Goals as goal
 

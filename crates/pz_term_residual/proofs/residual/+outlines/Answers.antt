@@ -2,7 +2,7 @@ use Rattle.std.proofs.Common.{◌<◌, ◌∷◌, length, refl, arith}
 use Rattle.pz_classes_code.specs.StepView as step
 use Rattle.pz_rules.specs.Terms as terms
 use Rattle.pz_rules.specs.View.{term_view, terms_view}
-use Rattle.pz_part_opening.specs.Homes.{home_view}
+use Rattle.pz_term_around.specs.pz_part_opening.Homes.{home_view}
 use Rattle.pz_term_residual.proofs.Forms.{seq_is, sel_is, frame_is}
 use Rattle.pz_term_residual.proofs.Residuals.{seen_may, among_within, among_may, select_within, select_may, seen_left, sequence_left, frame_left, select_left, among_left, abort_left_first, idle_left_first}
 use Rattle.pz_term_residual.proofs.residual.+outlines.Goals as goal

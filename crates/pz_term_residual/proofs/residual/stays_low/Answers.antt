@@ -3,9 +3,9 @@ use Rattle.pz_rules.specs.Terms.{height}
 use Rattle.pz_rules.specs.View.{term_view}
 use Rattle.pz_rules.specs.Settings.{left_by}
 use Rattle.pz_rules.specs.Leaving.{residual}
-use Rattle.pz_part_opening.specs.Homes.{home_view}
-use Rattle.pz_term_residual.specs.declared.outline.Outline.{Outline}
-use Rattle.pz_term_residual.proofs.Capping.{low_as_ever}
+use Rattle.pz_term_around.specs.pz_part_opening.Homes.{home_view}
+use Rattle.pz_term_outlines.specs.declared.outline.Outline.{Outline}
+use Rattle.pz_term_outlines.proofs.Capping.{low_as_ever}
 use Rattle.pz_term_residual.proofs.residual.stays_low.Goals as goal
 
 pub returns : goal.returns

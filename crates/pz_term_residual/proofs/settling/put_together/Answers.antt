@@ -2,7 +2,7 @@ use Rattle.std.proofs.Common.{Some}
 use Rattle.std.proofs.lemmas.List.Elements.{All-pop}
 use Rattle.pz_rules.specs.View.{term_view}
 use Rattle.pz_rules.specs.Settings.{left_by}
-use Rattle.pz_part_opening.specs.Homes.{home_view}
+use Rattle.pz_term_around.specs.pz_part_opening.Homes.{home_view}
 use Rattle.pz_term_residual.specs.devices.Unwound.{put_round, unwound, HasItsPlace}
 use Rattle.pz_term_residual.proofs.Unwinding.{further_out, marks_stay}
 use Rattle.pz_term_residual.proofs.settling.put_together.Goals as goal

@@ -2,7 +2,7 @@ use Rattle.std.proofs.Common.{◌≡◌, length}
 use Rattle.std.specs.List.{All}
 use Rattle.pz_rules.specs.View.{term_view}
 use Rattle.pz_rules.specs.Settings.{left_by}
-use Rattle.pz_part_opening.specs.Homes.{home_view}
+use Rattle.pz_term_around.specs.pz_part_opening.Homes.{home_view}
 use Rattle.pz_term_residual.specs.devices.Unwound.{unwound, HasItsPlace}
 use Rattle.pz_term_residual.proofs.settling.put_together.Given as goal
 

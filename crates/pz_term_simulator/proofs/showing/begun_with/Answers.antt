@@ -1,10 +1,10 @@
 use Rattle.std.proofs.Common.{◌≡◌, [], ◌∷◌, List, sym, ap, subst, ◌∙◌}
 use Rattle.std.proofs.lemmas.Result.{IfOk-weaker}
-use Rattle.pz_value.specs.declared.value.Value.{Value}
-use Rattle.pz_state.specs.Marks.{Seen}
-use Rattle.pz_state.specs.Objects.{ObjectView}
-use Rattle.pz_state.specs.States.{StateView, initial, value_at}
-use Rattle.pz_copy.specs.Packing.{IsParcelOf}
+use Rattle.pz_rules.specs.pz_value.declared.value.Value.{Value}
+use Rattle.pz_rules.specs.pz_state.Marks.{Seen}
+use Rattle.pz_rules.specs.pz_state.Objects.{ObjectView}
+use Rattle.pz_rules.specs.pz_state.States.{StateView, initial, value_at}
+use Rattle.pz_rules.specs.pz_copy.Packing.{IsParcelOf}
 use Rattle.pz_term_simulator.proofs.Opened.{moved}
 use Rattle.pz_term_simulator.proofs.showing.begun_with.Goals as goal
 

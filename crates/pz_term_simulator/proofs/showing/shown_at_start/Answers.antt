@@ -1,7 +1,7 @@
 use Rattle.std.proofs.Common.{[], ◌∷◌}
 use Rattle.std.proofs.lemmas.Result.{IfOk-weaker}
-use Rattle.pz_state.specs.States.{initial, value_at}
-use Rattle.pz_copy.specs.Packing.{IsParcelOf}
+use Rattle.pz_rules.specs.pz_state.States.{initial, value_at}
+use Rattle.pz_rules.specs.pz_copy.Packing.{IsParcelOf}
 use Rattle.pz_rules.specs.devices.Start.{start_of}
 use Rattle.pz_term_simulator.specs.Shown.{HoldsValue}
 use Rattle.pz_term_simulator.proofs.Variables.{begun_plain, begun_holds}

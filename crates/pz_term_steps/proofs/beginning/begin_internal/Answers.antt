@@ -1,13 +1,13 @@
 use Rattle.std.proofs.Common.{refl}
 use Rattle.pz_rules.specs.InternalActions.{Performs}
 use Rattle.pz_rules.specs.View.{term_view}
-use Rattle.pz_classes.specs.CheckedView.{checked_model}
-use Rattle.pz_part_opening.specs.Homes.{home_view}
-use Rattle.pz_part_actions.specs.Homes.{standing_at, seen_home}
+use Rattle.pz_bind.specs.pz_classes.CheckedView.{checked_model}
+use Rattle.pz_term_processes.specs.pz_part_opening.Homes.{home_view}
+use Rattle.pz_term_processes.specs.pz_part_actions.Homes.{standing_at, seen_home}
 use Rattle.pz_rules.specs.Acting.{IsActing}
-use Rattle.pz_part_actions.specs.Becoming.{process_left}
+use Rattle.pz_term_processes.specs.pz_part_actions.Becoming.{process_left}
 use Rattle.pz_term_steps.specs.devices.Deeds.{CanAct}
-use Rattle.pz_part_actions.proofs.Statements.{acting_place}
+use Rattle.pz_term_processes.proofs.pz_part_actions_proofs.Statements.{acting_place}
 use Rattle.pz_term_steps.proofs.Marked.{known_is, may_act, part_is, place_is, part_fits, leaves_begun}
 use Rattle.pz_term_steps.proofs.beginning.begin_internal.Goals as goal
 

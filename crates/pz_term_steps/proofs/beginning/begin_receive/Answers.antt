@@ -1,20 +1,20 @@
 use Rattle.std.proofs.Common.{refl, ◌∙◌, ap, Result, sym, subst}
-use Rattle.pz_offer.specs.declared.trouble.Trouble.{Trouble}
-use Rattle.pz_syntax.specs.declared.tokens.Pos.{Pos}
-use Rattle.pz_eval.specs.Known.{AreKnown}
-use Rattle.pz_part_queries.specs.declared.standpoint.Standpoint.{Standpoint}
-use Rattle.pz_part_queries.specs.Standpoints.{Knows, seen_from}
+use Rattle.pz_rules.specs.pz_offer.declared.trouble.Trouble.{Trouble}
+use Rattle.pz_classes_code.specs.pz_syntax.declared.tokens.Pos.{Pos}
+use Rattle.pz_term_processes.specs.pz_eval.Known.{AreKnown}
+use Rattle.pz_term_processes.specs.pz_part_queries.declared.standpoint.Standpoint.{Standpoint}
+use Rattle.pz_term_processes.specs.pz_part_queries.Standpoints.{Knows, seen_from}
 use Rattle.pz_rules.specs.Settings.{Process}
 use Rattle.pz_rules.specs.Meanings.{and_then}
 use Rattle.pz_rules.specs.Messages.{Takes}
 use Rattle.pz_rules.specs.View.{term_view}
-use Rattle.pz_classes.specs.CheckedView.{checked_model}
-use Rattle.pz_part_opening.specs.Homes.{home_view}
-use Rattle.pz_part_actions.specs.Homes.{standing_at, seen_home}
+use Rattle.pz_bind.specs.pz_classes.CheckedView.{checked_model}
+use Rattle.pz_term_processes.specs.pz_part_opening.Homes.{home_view}
+use Rattle.pz_term_processes.specs.pz_part_actions.Homes.{standing_at, seen_home}
 use Rattle.pz_rules.specs.Acting.{IsReceive}
-use Rattle.pz_part_actions.specs.Becoming.{done_left}
+use Rattle.pz_term_processes.specs.pz_part_actions.Becoming.{done_left}
 use Rattle.pz_term_steps.specs.devices.Deeds.{CanReceive, settled_home}
-use Rattle.pz_part_actions.proofs.Statements.{receiving_place}
+use Rattle.pz_term_processes.proofs.pz_part_actions_proofs.Statements.{receiving_place}
 use Rattle.pz_term_steps.proofs.Marked.{known_is, may_act, part_is, place_is, as_it_is, leaves_begun}
 use Rattle.pz_term_steps.proofs.beginning.begin_receive.Goals as goal
 

@@ -1,14 +1,14 @@
 use Rattle.std.proofs.Common.{◌∙◌, Ok, Err, refl, subst, ap}
 use Rattle.std.specs.Prelude.{slice_index_or, slice_set}
 use Rattle.std.proofs.lemmas.Option.{slice_get-get_or}
-use Rattle.pz_classes.specs.CheckedView.{checked_model}
-use Rattle.pz_classes.specs.Soundness.{IsSound}
+use Rattle.pz_bind.specs.pz_classes.CheckedView.{checked_model}
+use Rattle.pz_rules.specs.pz_classes_rules.Soundness.{IsSound}
 use Rattle.pz_rules.specs.InternalActions.{Performs}
 use Rattle.pz_rules.specs.View.{term_view}
 use Rattle.pz_term_processes.specs.declared.process.Process.{Process}
 use Rattle.pz_term_processes.specs.Standing.{setting_of, process_view}
-use Rattle.pz_bind.specs.Nest.{class_at}
-use Rattle.pz_part_opening.specs.Homes.{home_view}
+use Rattle.pz_rules.specs.pz_bind_rules.Nest.{class_at}
+use Rattle.pz_term_processes.specs.pz_part_opening.Homes.{home_view}
 use Rattle.pz_term_steps.specs.devices.Deeds.{CanAct, begun_process, seen_at}
 use Rattle.pz_term_steps.proofs.Lists.{set_back}
 use Rattle.pz_term_steps.proofs.Marked.{may_act}

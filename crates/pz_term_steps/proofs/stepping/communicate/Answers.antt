@@ -1,16 +1,16 @@
 use Rattle.std.proofs.Common.{◌∙◌, Ok, Err, refl, sym, subst, ap}
 use Rattle.std.specs.Prelude.{slice_index_or, slice_set}
 use Rattle.std.proofs.lemmas.Option.{slice_get-get_or}
-use Rattle.pz_classes.specs.CheckedView.{checked_model}
-use Rattle.pz_state.specs.Marks.{IsLatest, undone}
-use Rattle.pz_bind.specs.Nest.{class_at}
+use Rattle.pz_bind.specs.pz_classes.CheckedView.{checked_model}
+use Rattle.pz_rules.specs.pz_state.Marks.{IsLatest, undone}
+use Rattle.pz_rules.specs.pz_bind_rules.Nest.{class_at}
 use Rattle.pz_rules.specs.Leaving.{residual, swept}
 use Rattle.pz_rules.specs.Settings.{left_by}
 use Rattle.pz_rules.specs.Messages.{Hands, Takes}
 use Rattle.pz_rules.specs.View.{term_view}
 use Rattle.pz_term_processes.specs.declared.process.Process.{Process}
 use Rattle.pz_term_processes.specs.Standing.{setting_of, process_view}
-use Rattle.pz_part_opening.specs.Homes.{home_view}
+use Rattle.pz_term_processes.specs.pz_part_opening.Homes.{home_view}
 use Rattle.pz_term_steps.specs.devices.Deeds.{CanSend, CanReceive, begun_process, seen_at}
 use Rattle.pz_term_steps.proofs.Lists.{get_other, set_back, set_within, first_still, second_still, both_back}
 use Rattle.pz_term_steps.proofs.AtHome.{net_has, knows_there, can_there, leaves_there}

@@ -1,8 +1,8 @@
 use Rattle.std.proofs.Common.{◌<◌, length, subst, arith}
 use Rattle.std.specs.Prelude.{slice_index_or}
 use Rattle.std.proofs.lemmas.Option.{slice_get-get_or}
-use Rattle.pz_classes.specs.CheckedView.{checked_model}
-use Rattle.pz_classes.specs.Soundness.{IsSound}
+use Rattle.pz_bind.specs.pz_classes.CheckedView.{checked_model}
+use Rattle.pz_rules.specs.pz_classes_rules.Soundness.{IsSound}
 use Rattle.pz_term_processes.specs.Standing.{setting_of, config_of}
 use Rattle.pz_term_steps.proofs.Marked.{known_is}
 use Rattle.pz_term_steps.proofs.AtHome.{count_is}

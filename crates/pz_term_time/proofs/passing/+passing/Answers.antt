@@ -1,7 +1,7 @@
 use Rattle.std.proofs.Common.{◌≡◌, ◌∙◌, List, ap, arith}
 use denote.Param.Weighed.{most}
 use Rattle.pz_classes_code.specs.CodeView as code
-use Rattle.pz_state.specs.Marks.{Seen}
+use Rattle.pz_rules.specs.pz_state.Marks.{Seen}
 use Rattle.pz_rules.specs.declared.term.Term.{Term}
 use Rattle.pz_rules.proofs.term.Term.TheLaws.{the_size}
 use Rattle.pz_rules.specs.View.{terms_view}

@@ -1,5 +1,5 @@
 use Rattle.std.proofs.Common.{◌≡◌, ◌+◌, ◌*◌, ℕ, map, length, take, drop}
-use Rattle.pz_syntax.specs.Classes.{ModelTree}
+use Rattle.pz_classes_code.specs.pz_syntax.Classes.{ModelTree}
 use Rattle.pz_rules.proofs.term.Term.TheLaws.{the_size}
 use Rattle.pz_rules.specs.View.{term_view}
 use Rattle.pz_rules.specs.devices.Passing.{passed}

@@ -1,5 +1,5 @@
-use Rattle.pz_classes.specs.CheckedView.{checked_model}
-use Rattle.pz_classes.specs.Tables.{class_names}
+use Rattle.pz_bind.specs.pz_classes.CheckedView.{checked_model}
+use Rattle.pz_rules.specs.pz_classes_rules.ClassNames.{class_names}
 use Rattle.pz_trace.proofs.Naming.{names_merely}
 use Rattle.pz_trace.proofs.names.class_names.Goals as goal
 

@@ -1,5 +1,5 @@
 use Rattle.std.proofs.Common.{◌≤◌, ◌∙◌, sym, ap, subst, arith}
-use Rattle.pz_classes.specs.CheckedView.{checked_model}
+use Rattle.pz_bind.specs.pz_classes.CheckedView.{checked_model}
 use Rattle.pz_nodes.specs.Arena.{find}
 use Rattle.pz_rules.specs.Settings.{left_by}
 use Rattle.pz_rules.specs.Terms.{height}
@@ -9,7 +9,7 @@ use Rattle.pz_term_processes.specs.Standing.{setting_of, process_view}
 use Rattle.pz_rules.specs.Short.{IsShort}
 use Rattle.pz_tree.specs.declared.tree.Tree.{Tree}
 use Rattle.pz_tree.specs.Trees.{IsOf}
-use Rattle.pz_tree_regrowing.proofs.Shorts.{ends_in_time}
+use Rattle.pz_tree_acting.proofs.pz_tree_regrowing_proofs.Shorts.{ends_in_time}
 use Rattle.pz_rules.proofs.Opened.{start_short}
 use Rattle.pz_tree.proofs.Started.{place_of, class_is, IsBegun, has_begun}
 use Rattle.pz_tree.proofs.starting.planted.Goals as goal

@@ -2,7 +2,7 @@ use Rattle.std.proofs.Common.{refl}
 use Rattle.std.proofs.Math.Logic.{∥∥₁_map}
 use Rattle.pz_nodes.specs.Arena.{find}
 use Rattle.pz_part_actions.specs.Homes.{seen_home}
-use Rattle.pz_tree_nodes.specs.View.{term_in_option}
+use Rattle.pz_tree_regrowing.specs.pz_tree_nodes.View.{term_in_option}
 use Rattle.pz_tree_acting.specs.Acting.{MayBeDone}
 use Rattle.pz_tree_acting.proofs.Merely.{room_merely}
 use Rattle.pz_tree_acting.proofs.Finished.{begun_latest, begun_trouble, begun_older, begun_has_opened, begun_is_short, acts_trouble, acts_well}

@@ -1,10 +1,10 @@
 use Rattle.std.proofs.Common.{List, ap, subst}
 use Rattle.std.proofs.Math.Logic.{∥∥₁_map}
 use Rattle.pz_nodes.specs.Arena.{find}
-use Rattle.pz_part_opening.specs.Homes.{home_view}
+use Rattle.pz_part_actions.specs.pz_part_opening.Homes.{home_view}
 use Rattle.pz_rules.specs.View.{term_view}
-use Rattle.pz_state.specs.declared.state.FrameId.{FrameId}
-use Rattle.pz_tree_nodes.specs.Dropping.{numbers}
+use Rattle.pz_rules.specs.pz_state.declared.state.FrameId.{FrameId}
+use Rattle.pz_tree_regrowing.specs.pz_tree_nodes.Dropping.{numbers}
 use Rattle.pz_tree_acting.specs.devices.Closing.{CloseRule}
 use Rattle.pz_tree_acting.specs.devices.Begun.{MayGoOn}
 use Rattle.pz_tree_regrowing.proofs.Shorts.{ends_in_time}

@@ -1,13 +1,13 @@
 use Rattle.std.proofs.Common.{refl, ap, arith}
 use Rattle.std.proofs.Math.Logic.{∥∥₁_map, ∥∥₁_elim, ∥∥₁_prop}
-use Rattle.pz_classes.specs.CheckedView.{checked_model}
+use Rattle.pz_part_actions.specs.pz_classes.CheckedView.{checked_model}
 use Rattle.pz_nodes.specs.Arena.{find}
 use Rattle.pz_part_actions.specs.Becoming.{process_left}
 use Rattle.pz_part_actions.specs.Homes.{standing_at, seen_home}
-use Rattle.pz_part_opening.specs.Homes.{home_view}
+use Rattle.pz_part_actions.specs.pz_part_opening.Homes.{home_view}
 use Rattle.pz_rules.specs.View.{term_view}
-use Rattle.pz_state.specs.Marks.{Seen}
-use Rattle.pz_tree_nodes.specs.View.{term_in_option}
+use Rattle.pz_rules.specs.pz_state.Marks.{Seen}
+use Rattle.pz_tree_regrowing.specs.pz_tree_nodes.View.{term_in_option}
 use Rattle.pz_tree_acting.specs.Deeds.{able, deed}
 use Rattle.pz_tree_acting.specs.Acting.{MayBeDone}
 use Rattle.pz_tree_acting.specs.devices.Begun.{ActsSo}

@@ -1,6 +1,6 @@
 use Rattle.std.proofs.Common.{subst, sym}
 use Rattle.std.proofs.lemmas.Result.{IfOk-weaker}
-use Rattle.pz_classes.specs.CheckedView.{checked_model}
+use Rattle.pz_part_actions.specs.pz_classes.CheckedView.{checked_model}
 use Rattle.pz_part_actions.specs.Becoming.{process_left}
 use Rattle.pz_rules.specs.View.{term_view}
 use Rattle.pz_tree_acting.specs.declared.how.How.{How}

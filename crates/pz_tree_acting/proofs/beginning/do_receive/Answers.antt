@@ -1,12 +1,12 @@
 use Rattle.std.proofs.Common.{Result, sym, subst}
-use Rattle.pz_syntax.specs.declared.tokens.Pos.{Pos}
-use Rattle.pz_classes.specs.CheckedView.{checked_model}
-use Rattle.pz_eval.specs.Known.{AreKnown}
-use Rattle.pz_offer.specs.declared.trouble.Trouble.{Trouble}
+use Rattle.pz_classes_code.specs.pz_syntax.declared.tokens.Pos.{Pos}
+use Rattle.pz_part_actions.specs.pz_classes.CheckedView.{checked_model}
+use Rattle.pz_part_actions.specs.pz_eval.Known.{AreKnown}
+use Rattle.pz_rules.specs.pz_offer.declared.trouble.Trouble.{Trouble}
 use Rattle.pz_part_actions.specs.Becoming.{done_left}
 use Rattle.pz_part_actions.specs.Homes.{seen_home}
-use Rattle.pz_part_queries.specs.Standpoints.{Knows, seen_from}
-use Rattle.pz_part_queries.specs.declared.standpoint.Standpoint.{Standpoint}
+use Rattle.pz_part_actions.specs.pz_part_queries.Standpoints.{Knows, seen_from}
+use Rattle.pz_part_actions.specs.pz_part_queries.declared.standpoint.Standpoint.{Standpoint}
 use Rattle.pz_rules.specs.Messages.{Takes}
 use Rattle.pz_rules.specs.Settings.{Process}
 use Rattle.pz_rules.specs.View.{term_view}

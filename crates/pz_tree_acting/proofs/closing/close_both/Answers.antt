@@ -1,5 +1,5 @@
 use Rattle.std.proofs.lemmas.Result.{on_ok_weaker}
-use Rattle.pz_tree_nodes.specs.Dropping.{numbers}
+use Rattle.pz_tree_regrowing.specs.pz_tree_nodes.Dropping.{numbers}
 use Rattle.pz_tree_acting.proofs.Frames.{both_closed}
 use Rattle.pz_tree_acting.proofs.closing.close_both.Goals as goal
 

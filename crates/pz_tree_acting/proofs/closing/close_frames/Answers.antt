@@ -1,5 +1,5 @@
 use Rattle.std.proofs.lemmas.Result.{on_ok_weaker}
-use Rattle.pz_tree_nodes.specs.Dropping.{numbers}
+use Rattle.pz_tree_regrowing.specs.pz_tree_nodes.Dropping.{numbers}
 use Rattle.pz_tree_acting.proofs.Frames.{close_one, close_two}
 use Rattle.pz_tree_acting.proofs.closing.close_frames.Goals as goal
 

@@ -1,8 +1,8 @@
 use Rattle.std.proofs.Common.{ℕ, List, ap, ◌∙◌, sym}
 use Rattle.std.proofs.lemmas.Result.{on_ok_weaker}
-use Rattle.pz_state.specs.Marks.{Seen, changed}
-use Rattle.pz_term_residual.specs.Closing.{without_frames}
-use Rattle.pz_tree_nodes.specs.Dropping.{numbers}
+use Rattle.pz_rules.specs.pz_state.Marks.{Seen, changed}
+use Rattle.pz_term_frames.specs.Closing.{without_frames}
+use Rattle.pz_tree_regrowing.specs.pz_tree_nodes.Dropping.{numbers}
 use Rattle.pz_tree_acting.proofs.Frames.{numbers_none, empty_closed, those_closed}
 use Rattle.pz_tree_acting.proofs.closing.close_lost.Goals as goal
 

@@ -1,7 +1,7 @@
 use Rattle.std.proofs.Common.{ℕ, List, ap, ◌∙◌}
 use Rattle.std.proofs.lemmas.Result.{on_ok_weaker}
 use Rattle.pz_rules.specs.Leaving.{only_frames}
-use Rattle.pz_state.specs.Marks.{Seen, changed}
+use Rattle.pz_rules.specs.pz_state.Marks.{Seen, changed}
 use Rattle.pz_tree_acting.proofs.Frames.{only_listed}
 use Rattle.pz_tree_acting.proofs.closing.close_unlisted.Goals as goal
 

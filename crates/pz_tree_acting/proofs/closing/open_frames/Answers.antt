@@ -1,6 +1,6 @@
 use Rattle.std.proofs.Common.{◌≡◌, ap, ◌∙◌}
 use Rattle.std.proofs.lemmas.Result.{IfOk-weaker}
-use Rattle.pz_tree_nodes.specs.Dropping.{numbers}
+use Rattle.pz_tree_regrowing.specs.pz_tree_nodes.Dropping.{numbers}
 use Rattle.pz_tree_acting.specs.devices.Closing.{HasListed}
 use Rattle.pz_tree_acting.proofs.Frames.{one_has, two_has}
 use Rattle.pz_tree_acting.proofs.closing.open_frames.Goals as goal

@@ -2,7 +2,7 @@ use Rattle.std.proofs.lemmas.Result.{IfOk-weaker}
 use Rattle.pz_nodes.specs.Arena.{find}
 use Rattle.pz_nodes_shapes.specs.Seen.{seen}
 use Rattle.pz_rules.specs.View.{term_view}
-use Rattle.pz_tree_nodes.specs.View.{head_view, what_view}
+use Rattle.pz_tree_regrowing.specs.pz_tree_nodes.View.{head_view, what_view}
 use Rattle.pz_tree_acting.specs.devices.Parts.{HeadRule, PartRule}
 use Rattle.pz_tree_acting.proofs.Found.{none_under, vacant_seen, part_under}
 use Rattle.pz_tree_acting.proofs.parts.part_under.Goals as goal

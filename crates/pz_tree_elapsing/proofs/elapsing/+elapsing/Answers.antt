@@ -2,12 +2,12 @@ use Rattle.std.proofs.Common.{◌≡◌, ◌+◌, ◌∙◌, ℕ, List, Option, 
 use Rattle.std.proofs.lemmas.Result.{IfOk-weaker}
 use Rattle.std.proofs.lemmas.List.{drop_more}
 use Rattle.pz_nodes.specs.Arena.{find}
-use Rattle.pz_part_queries.specs.Standpoints.{seen_from}
-use Rattle.pz_state.specs.Marks.{Seen}
-use Rattle.pz_tree_standing.specs.Heads.{inner_frame}
-use Rattle.pz_tree_standing.specs.Reached.{reaches}
-use Rattle.pz_tree_nodes.specs.declared.node.Head as lying
-use Rattle.pz_tree_nodes.specs.View.{head_view}
+use Rattle.pz_tree_refreshing.specs.pz_part_queries.Standpoints.{seen_from}
+use Rattle.pz_tree_refreshing.specs.pz_state.Marks.{Seen}
+use Rattle.pz_tree_refreshing.specs.pz_tree_standing.Heads.{inner_frame}
+use Rattle.pz_tree_refreshing.specs.pz_tree_standing.Reached.{reaches}
+use Rattle.pz_tree_refreshing.specs.pz_tree_nodes.declared.node.Head as lying
+use Rattle.pz_tree_refreshing.specs.pz_tree_nodes.View.{head_view}
 use Rattle.pz_tree_elapsing.specs.declared.turning.Turn.{Turn}
 use Rattle.pz_tree_elapsing.specs.devices.Wakes.{turn_of, WakeRule}
 use Rattle.pz_tree_elapsing.specs.devices.Levels.{KidRule, KidsRule, TurnRule, written}

@@ -1,9 +1,9 @@
 use Rattle.std.proofs.Common.{◌≡◌, ◌+◌, ◌*◌, ℕ}
-use Rattle.pz_syntax.specs.Classes.{ModelTree}
+use Rattle.pz_classes_code.specs.pz_syntax.Classes.{ModelTree}
 use Rattle.pz_nodes.specs.Arena.{find}
-use Rattle.pz_part_queries.specs.Standpoints.{Knows, seen_from}
-use Rattle.pz_tree_standing.specs.Heads.{inner_frame}
-use Rattle.pz_tree_nodes.specs.View.{head_view}
+use Rattle.pz_tree_refreshing.specs.pz_part_queries.Standpoints.{Knows, seen_from}
+use Rattle.pz_tree_refreshing.specs.pz_tree_standing.Heads.{inner_frame}
+use Rattle.pz_tree_refreshing.specs.pz_tree_nodes.View.{head_view}
 use Rattle.pz_tree_elapsing.specs.devices.Levels.{ElapsesOn}
 use Rattle.pz_tree_elapsing.proofs.elapsing.+elapsing.Given as goal
 

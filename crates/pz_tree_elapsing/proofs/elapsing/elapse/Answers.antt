@@ -1,6 +1,6 @@
 use Rattle.std.proofs.Common.{sym}
 use Rattle.pz_nodes.specs.Arena.{find}
-use Rattle.pz_part_queries.specs.Standpoints.{seen_from}
+use Rattle.pz_tree_refreshing.specs.pz_part_queries.Standpoints.{seen_from}
 use Rattle.pz_tree_elapsing.proofs.Levels.{all_elapsed}
 use Rattle.pz_tree_elapsing.proofs.elapsing.elapse.Goals as goal
 

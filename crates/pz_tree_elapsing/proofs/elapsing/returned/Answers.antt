@@ -1,8 +1,8 @@
 use Rattle.std.proofs.Common.{◌∙◌, sym}
 use Rattle.pz_nodes.specs.Arena.{find}
-use Rattle.pz_part_queries.specs.Standpoints.{seen_from}
-use Rattle.pz_tree_standing.specs.Heads.{inner_frame}
-use Rattle.pz_tree_nodes.specs.View.{head_view}
+use Rattle.pz_tree_refreshing.specs.pz_part_queries.Standpoints.{seen_from}
+use Rattle.pz_tree_refreshing.specs.pz_tree_standing.Heads.{inner_frame}
+use Rattle.pz_tree_refreshing.specs.pz_tree_nodes.View.{head_view}
 use Rattle.pz_tree_elapsing.specs.devices.Levels.{first_kid}
 use Rattle.pz_tree_elapsing.proofs.Kids.{kept_there, has_returned}
 use Rattle.pz_tree_elapsing.proofs.elapsing.returned.Goals as goal

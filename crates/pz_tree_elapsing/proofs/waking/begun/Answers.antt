@@ -1,6 +1,6 @@
 use Rattle.std.proofs.Common.{◌∙◌, ap, sym}
 use Rattle.pz_classes_code.specs.StepView.{view}
-use Rattle.pz_tree_nodes.specs.View.{head_view}
+use Rattle.pz_tree_refreshing.specs.pz_tree_nodes.View.{head_view}
 use Rattle.pz_tree_elapsing.proofs.Delaying.{statement_stays, delay_due, delay_begins}
 use Rattle.pz_tree_elapsing.proofs.waking.begun.Goals as goal
 

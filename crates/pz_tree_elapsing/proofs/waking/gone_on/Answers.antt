@@ -1,9 +1,9 @@
 use Rattle.std.proofs.Common.{◌≡◌, ◌+◌, ℕ, false, ap, sym, subst}
 use Rattle.pz_classes_code.specs.CodeView as code
-use Rattle.pz_rules.specs.Settings.{Context}
-use Rattle.pz_tree_nodes.specs.declared.node.Head as lying
-use Rattle.pz_tree_nodes.specs.declared.node.Head.TheVariants as kind
-use Rattle.pz_tree_nodes.specs.View.{head_view}
+use Rattle.pz_tree_refreshing.specs.pz_rules.Settings.{Context}
+use Rattle.pz_tree_refreshing.specs.pz_tree_nodes.declared.node.Head as lying
+use Rattle.pz_tree_refreshing.specs.pz_tree_nodes.declared.node.Head.TheVariants as kind
+use Rattle.pz_tree_refreshing.specs.pz_tree_nodes.View.{head_view}
 use Rattle.pz_tree_elapsing.specs.devices.Wakes.{asked_anew, WakeRule}
 use Rattle.pz_tree_elapsing.proofs.ByForm.{plain_goes, guard_goes}
 use Rattle.pz_tree_elapsing.proofs.Delaying.{delay_goes_on}

@@ -1,8 +1,8 @@
 use Rattle.std.proofs.Common.{◌+◌, sym, subst, ◌∙◌}
 use Rattle.std.proofs.lemmas.Result.{IfOk-weaker}
-use Rattle.pz_part_queries.specs.Standpoints.{seen_from}
-use Rattle.pz_rules.specs.Settings.{Context}
-use Rattle.pz_tree_nodes.specs.View.{head_view}
+use Rattle.pz_tree_refreshing.specs.pz_part_queries.Standpoints.{seen_from}
+use Rattle.pz_tree_refreshing.specs.pz_rules.Settings.{Context}
+use Rattle.pz_tree_refreshing.specs.pz_tree_nodes.View.{head_view}
 use Rattle.pz_tree_refreshing.specs.devices.Asked.{AskRule}
 use Rattle.pz_tree_elapsing.proofs.ByForm.{anew_wakes}
 use Rattle.pz_tree_elapsing.proofs.waking.wake.Goals as goal

@@ -1,6 +1,6 @@
 use Rattle.std.proofs.Common.{◌≡◌, map, drop}
 use Rattle.pz_classes_code.specs.CodeView.{list_view, link_view, sending_view, links_of, sendings_of}
-use Rattle.pz_eval_rules.specs.Clocks.{list_names_clock, links_name_clock, sendings_name_clock}
+use Rattle.pz_rules.specs.pz_eval_rules.Clocks.{list_names_clock, links_name_clock, sendings_name_clock}
 use Rattle.pz_tree_nodes.proofs.clocks.+naming.Given as goal
 
 -- none of those before names it

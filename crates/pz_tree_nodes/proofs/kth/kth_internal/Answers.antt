@@ -1,6 +1,6 @@
 use Rattle.std.proofs.Common.{ap, arith}
 use Rattle.pz_nodes.specs.Arena.{find}
-use Rattle.pz_state.specs.declared.state.FrameId.{FrameId}
+use Rattle.pz_rules.specs.pz_state.declared.state.FrameId.{FrameId}
 use Rattle.pz_tree_nodes.proofs.Going.{sets_out, goes_on, nowhere, too_deep, chosen, acting}
 use Rattle.pz_tree_nodes.proofs.kth.kth_internal.Goals as goal
 

@@ -2,7 +2,7 @@ use Rattle.std.proofs.Common.{get_or, ap, arith}
 use Rattle.std.proofs.lemmas.List.{drop_more}
 use Rattle.pz_nodes.specs.Arena.{find}
 use Rattle.pz_nodes_shapes.specs.Seen.{seen}
-use Rattle.pz_state.specs.declared.state.FrameId.{FrameId}
+use Rattle.pz_rules.specs.pz_state.declared.state.FrameId.{FrameId}
 use Rattle.pz_tree_nodes.specs.View.{what_view}
 use Rattle.pz_tree_nodes.proofs.Ways.{sets_out, goes_on, arrived}
 use Rattle.pz_tree_nodes.proofs.parts.part_at.Goals as goal

@@ -2,7 +2,7 @@ use Rattle.std.proofs.Common.{◌≡◌, ◌∷◌, List, ap, sym, subst, ◌∙
 use Rattle.std.specs.Vec.Iter.{into_iter_items}
 use Rattle.std.proofs.lemmas.List.{nil_from_length}
 use Rattle.pz_nodes.specs.Arena.{find}
-use Rattle.pz_rules.specs.devices.Walk.{active_parts, noted, received_by}
+use Rattle.pz_tree_nodes.specs.pz_rules.devices.Walk.{active_parts, noted, received_by}
 use Rattle.pz_tree_nodes.specs.declared.found.Part.{Part}
 use Rattle.pz_tree_nodes.specs.Listing.{AreOf}
 use Rattle.pz_tree_offering.specs.Offers.{IsReceive}

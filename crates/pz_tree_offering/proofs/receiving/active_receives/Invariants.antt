@@ -1,10 +1,10 @@
 use Rattle.std.proofs.Common.{◌≡◌, ℕ, List, length}
 use Rattle.std.specs.Vec.Iter.{into_iter_items, into_iter_len}
 use Rattle.pz_nodes.specs.Arena.{find}
-use Rattle.pz_rules.specs.Settings.{Context}
-use Rattle.pz_rules.specs.Terms.{Term}
-use Rattle.pz_rules.specs.devices.Walk as walk
-use Rattle.pz_rules.specs.devices.Walk.{Noted, received_by}
+use Rattle.pz_tree_nodes.specs.pz_rules.Settings.{Context}
+use Rattle.pz_tree_nodes.specs.pz_rules.Terms.{Term}
+use Rattle.pz_tree_nodes.specs.pz_rules.devices.Walk as walk
+use Rattle.pz_tree_nodes.specs.pz_rules.devices.Walk.{Noted, received_by}
 use Rattle.pz_tree_nodes.specs.Listing.{AreOf}
 use Rattle.pz_tree_offering.specs.Offers.{IsReceive}
 use Rattle.pz_tree_offering.proofs.Each.{SoFar}

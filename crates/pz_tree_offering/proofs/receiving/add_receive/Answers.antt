@@ -1,5 +1,5 @@
 use Rattle.std.proofs.Common.{refl, sym, ap, ◌∙◌}
-use Rattle.pz_syntax.specs.declared.names.Id.{Id}
+use Rattle.pz_classes_code.specs.pz_syntax.declared.names.Id.{Id}
 use Rattle.pz_nodes.specs.Arena.{find}
 use Rattle.pz_tree_offering.proofs.Received.{received_so}
 use Rattle.pz_tree_offering.proofs.receiving.add_receive.Goals as goal

@@ -2,10 +2,10 @@ use Rattle.std.proofs.Common.{◌≡◌, ℕ, List, length}
 use Rattle.std.specs.Vec.Iter.{into_iter_items, into_iter_len}
 use Rattle.pz_nodes.specs.Arena.{find}
 use Rattle.pz_part_queries.specs.Standpoints.{Knows, seen_from}
-use Rattle.pz_rules.specs.Terms.{Term}
-use Rattle.pz_rules.specs.devices.Walk as walk
-use Rattle.pz_rules.specs.devices.Walk.{Noted, sent_by}
-use Rattle.pz_syntax.specs.Classes.{ModelTree}
+use Rattle.pz_tree_nodes.specs.pz_rules.Terms.{Term}
+use Rattle.pz_tree_nodes.specs.pz_rules.devices.Walk as walk
+use Rattle.pz_tree_nodes.specs.pz_rules.devices.Walk.{Noted, sent_by}
+use Rattle.pz_classes_code.specs.pz_syntax.Classes.{ModelTree}
 use Rattle.pz_tree_nodes.specs.Listing.{AreOf}
 use Rattle.pz_tree_offering.specs.Offers.{IsSend}
 use Rattle.pz_tree_offering.proofs.Each.{SoFar}

@@ -1,8 +1,8 @@
 use Rattle.std.proofs.Common.{Result, refl, sym, subst, ap, ◌∙◌}
-use Rattle.pz_syntax.specs.declared.names.Id.{Id}
-use Rattle.pz_copy.specs.Parcels.{ParcelView}
+use Rattle.pz_classes_code.specs.pz_syntax.declared.names.Id.{Id}
+use Rattle.pz_tree_nodes.specs.pz_copy.Parcels.{ParcelView}
 use Rattle.pz_classes_code.specs.CodeView.{part_view}
-use Rattle.pz_offer.specs.declared.trouble.Trouble.{Trouble}
+use Rattle.pz_tree_nodes.specs.pz_offer.declared.trouble.Trouble.{Trouble}
 use Rattle.pz_nodes.specs.Arena.{find}
 use Rattle.pz_part_queries.specs.Standpoints.{seen_from}
 use Rattle.pz_part_queries.specs.Parcels.{Packs}

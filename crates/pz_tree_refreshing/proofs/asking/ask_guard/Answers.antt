@@ -1,7 +1,7 @@
 use Rattle.std.proofs.Common.{◌∙◌, ap}
 use Rattle.pz_classes_code.specs.declared.code.Code.{Code}
 use Rattle.pz_classes_code.specs.CodeView as code
-use Rattle.pz_eval_rules.specs.Clocks.{names_clock}
+use Rattle.pz_tree_nodes.specs.pz_eval_rules.Clocks.{names_clock}
 use Rattle.pz_part_queries.specs.Standpoints.{seen_from}
 use Rattle.pz_tree_refreshing.specs.devices.Asked.{kept_of_guard}
 use Rattle.pz_tree_refreshing.proofs.Gates.{guard_asked}

@@ -1,7 +1,7 @@
 use Rattle.std.proofs.Common.{◌∙◌, ap, sym, subst}
 use Rattle.pz_classes_code.specs.CodeView as code
 use Rattle.pz_part_queries.specs.Standpoints.{seen_from}
-use Rattle.pz_rules.specs.Terms.{Step}
+use Rattle.pz_tree_nodes.specs.pz_rules.Terms.{Step}
 use Rattle.pz_tree_refreshing.specs.devices.Asked.{SaysItself}
 use Rattle.pz_tree_refreshing.proofs.Statements.{is_delay, is_send, delay_itself, send_itself}
 use Rattle.pz_tree_refreshing.proofs.asking.ask_step.Goals as goal

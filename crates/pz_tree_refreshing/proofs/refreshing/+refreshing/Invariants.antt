@@ -1,8 +1,8 @@
 use Rattle.std.proofs.Common.{◌≡◌, ◌+◌, ◌*◌, ℕ}
-use Rattle.pz_syntax.specs.Classes.{ModelTree}
+use Rattle.pz_classes_code.specs.pz_syntax.Classes.{ModelTree}
 use Rattle.pz_nodes.specs.Arena.{find}
 use Rattle.pz_part_queries.specs.Standpoints.{Knows, seen_from}
-use Rattle.pz_tree_standing.specs.Heads.{inner_frame}
+use Rattle.pz_tree_nodes.specs.pz_tree_standing.Heads.{inner_frame}
 use Rattle.pz_tree_nodes.specs.View.{head_view}
 use Rattle.pz_tree_refreshing.specs.devices.Levels.{RefreshesOn}
 use Rattle.pz_tree_refreshing.proofs.refreshing.+refreshing.Given as goal

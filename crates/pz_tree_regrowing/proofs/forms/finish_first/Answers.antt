@@ -3,7 +3,7 @@ use Rattle.std.specs.Prelude.{slice_index_or}
 use Rattle.std.proofs.lemmas.Result.{IfOk-weaker}
 use Rattle.pz_nodes.specs.Arena.{find}
 use Rattle.pz_classes_code.specs.StepView.{view}
-use Rattle.pz_tree_standing.specs.Heads as heads
+use Rattle.pz_tree_nodes.specs.pz_tree_standing.Heads as heads
 use Rattle.pz_tree_nodes.specs.Keeping.{joined, raised}
 use Rattle.pz_tree_nodes.specs.Dropping.{numbers}
 use Rattle.pz_tree_regrowing.specs.devices.Keeping.{kept_in, kept_behind}

@@ -2,7 +2,7 @@ use Rattle.std.proofs.Common.{sym, ◌∙◌}
 use Rattle.std.proofs.lemmas.Result.{IfOk-weaker}
 use Rattle.pz_nodes.specs.Arena.{find}
 use Rattle.pz_classes_code.specs.StepView.{view}
-use Rattle.pz_part_opening.specs.Homes.{home_view}
+use Rattle.pz_term_around.specs.pz_part_opening.Homes.{home_view}
 use Rattle.pz_tree_regrowing.specs.devices.Levels.{ResumeRule, SuspendRule, SecondRule}
 use Rattle.pz_tree_regrowing.proofs.Interrupts.{second_done}
 use Rattle.pz_tree_regrowing.proofs.Writes.{is_gone, is_there}

@@ -1,11 +1,11 @@
 use Rattle.std.proofs.Common.{◌≡◌, ◌+◌, ℕ, [], ◌∷◌, ◌++◌, sym, subst}
 use Rattle.pz_nodes.specs.Arena.{find}
 use Rattle.pz_classes_code.specs.StepView.{sequence_view}
-use Rattle.pz_part_opening.specs.Homes.{home_view}
+use Rattle.pz_term_around.specs.pz_part_opening.Homes.{home_view}
 use Rattle.pz_rules.specs.Terms.{frames_in}
 use Rattle.pz_rules.specs.View.{term_view}
 use Rattle.pz_tree_nodes.specs.Planting.{EndsInTime, Planted, nodes_of}
-use Rattle.pz_tree_standing.specs.Heads as heads
+use Rattle.pz_tree_nodes.specs.pz_tree_standing.Heads as heads
 use Rattle.pz_tree_regrowing.specs.devices.Levels.{ChangingRule}
 use Rattle.pz_tree_regrowing.proofs.ByForm.{sequence_goes_on, sequence_ends}
 use Rattle.pz_tree_regrowing.proofs.Openings.{opened_all_calm}

@@ -1,7 +1,7 @@
 use Rattle.std.proofs.Common.{ap, sym, ◌∙◌, subst}
 use Rattle.pz_nodes.specs.Arena.{find}
 use Rattle.pz_classes_code.specs.StepView.{view}
-use Rattle.pz_part_opening.specs.Homes.{home_view}
+use Rattle.pz_term_around.specs.pz_part_opening.Homes.{home_view}
 use Rattle.pz_rules.specs.View.{term_view}
 use Rattle.pz_rules.specs.Opening.{opened}
 use Rattle.pz_rules.specs.Becoming.{Became}

@@ -1,6 +1,6 @@
 use Rattle.std.proofs.Common.{refl}
 use Rattle.pz_nodes.specs.Arena.{find}
-use Rattle.pz_part_opening.specs.Homes.{home_view}
+use Rattle.pz_term_around.specs.pz_part_opening.Homes.{home_view}
 use Rattle.pz_tree_regrowing.proofs.Descending.{arrives, nothing_acts, level_outlined, outlined}
 use Rattle.pz_tree_regrowing.proofs.outlining.+outlines.Goals as goal
 

@@ -1,6 +1,6 @@
 use Rattle.pz_classes_code.specs.StepView.{view}
 use Rattle.pz_nodes.specs.Arena.{find}
-use Rattle.pz_part_opening.specs.Homes.{home_view}
+use Rattle.pz_term_around.specs.pz_part_opening.Homes.{home_view}
 use Rattle.pz_tree_regrowing.proofs.HighRounds.{second_acts}
 use Rattle.pz_tree_regrowing.proofs.outlining.outline_handling.Goals as goal
 

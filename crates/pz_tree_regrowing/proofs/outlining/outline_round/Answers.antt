@@ -1,9 +1,9 @@
 use Rattle.std.proofs.Common.{List, Option, ℕ, refl, subst, sym, ap, ◌∙◌}
 use Rattle.pz_classes_code.specs.StepView.{view, sequence_view}
 use Rattle.pz_nodes.specs.Arena.{find}
-use Rattle.pz_part_opening.specs.Homes.{home_view}
+use Rattle.pz_term_around.specs.pz_part_opening.Homes.{home_view}
 use Rattle.pz_tree_nodes.specs.View.{head_view}
-use Rattle.pz_tree_standing.specs.Heads as heads
+use Rattle.pz_tree_nodes.specs.pz_tree_standing.Heads as heads
 use Rattle.pz_tree_regrowing.specs.devices.Outlining.{HomeRoundRule}
 use Rattle.pz_tree_regrowing.proofs.HighRounds.{by_head, sequence_round, frame_round, handling_second}
 use Rattle.pz_tree_regrowing.proofs.outlining.outline_round.Goals as goal

@@ -1,6 +1,6 @@
 use Rattle.std.proofs.Common.{arith}
 use Rattle.pz_nodes.specs.Arena.{find}
-use Rattle.pz_part_opening.specs.Homes.{home_view}
+use Rattle.pz_term_around.specs.pz_part_opening.Homes.{home_view}
 use Rattle.pz_rules.specs.View.{term_view}
 use Rattle.pz_tree_regrowing.proofs.Descending.{low_after, few_after}
 use Rattle.pz_tree_regrowing.proofs.outlining.stays_low.Goals as goal

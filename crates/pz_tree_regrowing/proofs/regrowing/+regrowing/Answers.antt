@@ -1,7 +1,7 @@
 use Rattle.std.proofs.Common.{◌≡◌, ◌≤◌, ◌+◌, length, None, arith, rules}
 use Rattle.std.proofs.lemmas.Result.{IfOk-weaker}
 use Rattle.pz_nodes.specs.Arena.{find}
-use Rattle.pz_part_opening.specs.Homes.{home_view}
+use Rattle.pz_term_around.specs.pz_part_opening.Homes.{home_view}
 use Rattle.pz_rules.specs.View.{term_view}
 use Rattle.pz_tree_nodes.specs.Dropping.{numbers}
 use Rattle.pz_tree_nodes.specs.View.{head_view}

@@ -3,9 +3,9 @@ use Rattle.std.proofs.lemmas.Result.{IfOk-weaker}
 use Rattle.pz_nodes.specs.Arena.{find}
 use Rattle.pz_classes_code.specs.CodeView as code
 use Rattle.pz_classes_code.specs.StepView.{view, sequence_view}
-use Rattle.pz_part_opening.specs.Homes.{home_view}
+use Rattle.pz_term_around.specs.pz_part_opening.Homes.{home_view}
 use Rattle.pz_rules.specs.Settings.{Home}
-use Rattle.pz_tree_standing.specs.Heads as heads
+use Rattle.pz_tree_nodes.specs.pz_tree_standing.Heads as heads
 use Rattle.pz_tree_nodes.specs.Dropping.{numbers}
 use Rattle.pz_tree_nodes.specs.View.{head_view}
 use Rattle.pz_tree_regrowing.specs.Regrowing.{at_work}

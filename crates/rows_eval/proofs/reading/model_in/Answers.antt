@@ -1,9 +1,9 @@
 use Rattle.std.proofs.Common.{◌≡◌, ◌≤◌, ap, ◌∙◌, List, Option, Some, None, length, arith}
 use Rattle.std.specs.Prelude.{IfSome}
-use Rattle.pz_syntax.specs.declared.clusters.Model.{Model}
-use Rattle.pz_syntax.specs.declared.tokens.Token.{Token}
-use Rattle.pz_syntax.specs.ClassView.{model_view}
-use Rattle.pz_syntax.specs.ModelText.{HasFewMarks, text as text_of}
+use Rattle.pz_classes_code.specs.pz_syntax.declared.clusters.Model.{Model}
+use Rattle.pz_classes_code.specs.pz_syntax.declared.tokens.Token.{Token}
+use Rattle.pz_classes_code.specs.pz_syntax.ClassView.{model_view}
+use Rattle.pz_classes_code.specs.pz_syntax.ModelText.{HasFewMarks, text as text_of}
 use Rattle.rows_eval.proofs.reading.model_in.Goals as goal
 
 few : (o : Option Model) (n : _) → n ≤ 1000000 → IfSome o (λ m. length (text_of (model_view m)) ≡ n) → IfSome o (λ m. HasFewMarks (model_view m))

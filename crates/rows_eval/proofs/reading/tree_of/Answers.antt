@@ -1,7 +1,7 @@
 use Rattle.std.proofs.Common.{◌≡◌, sym, ap, ◌∙◌, List, length}
 use Rattle.std.proofs.lemmas.List.{length-map}
-use Rattle.pz_syntax.specs.declared.tokens.Mark.{Mark}
-use Rattle.pz_syntax.specs.declared.tokens.Token.{Token}
+use Rattle.pz_classes_code.specs.pz_syntax.declared.tokens.Mark.{Mark}
+use Rattle.pz_classes_code.specs.pz_syntax.declared.tokens.Token.{Token}
 use Rattle.rows_eval.proofs.reading.tree_of.Goals as goal
 
 pub returns-in-Ok : goal.returns-in-Ok

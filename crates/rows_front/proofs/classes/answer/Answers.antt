@@ -1,4 +1,4 @@
-use Rattle.pz_syntax.specs.ClassView.{model_view}
+use Rattle.pz_classes_code.specs.pz_syntax.ClassView.{model_view}
 use Rattle.rows_front.proofs.classes.answer.Goals as goal
 
 pub method-requires : goal.method-requires

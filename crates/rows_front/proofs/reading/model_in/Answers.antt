@@ -1,8 +1,8 @@
 use Rattle.std.proofs.Common.{◌≡◌, ◌≤◌, ap, List, length, arith}
 use Rattle.std.proofs.lemmas.Result.{IfOk-weaker}
-use Rattle.pz_syntax.specs.declared.tokens.Token.{Token}
-use Rattle.pz_syntax.specs.ClassView.{model_view}
-use Rattle.pz_syntax.specs.ModelText.{HasFewMarks}
+use Rattle.pz_classes_code.specs.pz_syntax.declared.tokens.Token.{Token}
+use Rattle.pz_classes_code.specs.pz_syntax.ClassView.{model_view}
+use Rattle.pz_classes_code.specs.pz_syntax.ModelText.{HasFewMarks}
 use Rattle.rows_front.proofs.reading.model_in.Goals as goal
 
 pub returns-in-Ok : goal.returns-in-Ok

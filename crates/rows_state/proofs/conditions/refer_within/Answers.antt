@@ -1,4 +1,4 @@
-use Rattle.pz_state.specs.References.{RefersWithin}
+use Rattle.pz_copy.specs.pz_state.References.{RefersWithin}
 use Rattle.rows_state.proofs.Taken.{one_more, each}
 use Rattle.rows_state.proofs.conditions.refer_within.Goals as goal
 

@@ -1,5 +1,5 @@
 use Rattle.std.proofs.Common.{take, All}
-use Rattle.pz_state.specs.References.{RefersWithin}
+use Rattle.pz_copy.specs.pz_state.References.{RefersWithin}
 use Rattle.rows_state.proofs.conditions.refer_within.Given as goal
 
 abbrev pub invariant-loop-value : goal.invariant-loop-value

@@ -1,6 +1,6 @@
 use Rattle.std.proofs.Common.{◌≡◌, ℕ, List, drop}
 use Rattle.std.specs.Option.{unwrap_or}
-use Rattle.pz_bind.specs.Values.{given_value}
+use Rattle.pz_bind_rules.specs.Values.{given_value}
 use Rattle.pz_bind.specs.devices.Bindings.{bound_in, value_in}
 use Rattle.pz_bind.proofs.bindings.Bindings.below.Given as goal
 

@@ -1,10 +1,10 @@
 use Rattle.std.proofs.Common.{◌≡◌, ℕ, List, drop}
 use Rattle.std.specs.Option.{option_or}
 use Rattle.std.specs.List.{flat_map}
-use Rattle.pz_syntax.specs.declared.clusters.Instance.{Instance}
-use Rattle.pz_syntax.specs.Classes.{ModelTree}
+use Rattle.pz_bind_rules.specs.pz_syntax.declared.clusters.Instance.{Instance}
+use Rattle.pz_bind_rules.specs.pz_syntax.Classes.{ModelTree}
 use Rattle.pz_bind_levels.specs.devices.Walking.{linked_in}
-use Rattle.pz_bind.specs.devices.Layouts.{linked_by, link_of}
+use Rattle.pz_bind_rules.specs.devices.Layouts.{linked_by, link_of}
 use Rattle.pz_bind.specs.devices.Namings.{IsNaming}
 use Rattle.pz_bind.proofs.naming.Naming.add_ends.Given as goal
 

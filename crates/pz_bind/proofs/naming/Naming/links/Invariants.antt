@@ -1,9 +1,9 @@
 use Rattle.std.proofs.Common.{◌≡◌, ℕ, List, drop}
 use Rattle.std.specs.Option.{option_or}
-use Rattle.pz_syntax.specs.declared.clusters.Instance.{Instance}
-use Rattle.pz_syntax.specs.Classes.{ModelTree}
+use Rattle.pz_bind_rules.specs.pz_syntax.declared.clusters.Instance.{Instance}
+use Rattle.pz_bind_rules.specs.pz_syntax.Classes.{ModelTree}
 use Rattle.pz_bind_levels.specs.devices.Walking.{linked_in}
-use Rattle.pz_bind.specs.devices.Layouts.{linked_by, links_from}
+use Rattle.pz_bind_rules.specs.devices.Layouts.{linked_by, links_from}
 use Rattle.pz_bind.specs.devices.Namings.{IsNaming}
 use Rattle.pz_bind.proofs.naming.Naming.links.Given as goal
 

@@ -1,7 +1,7 @@
 use Rattle.std.proofs.Common.{◌≡◌, ◌∙◌, ap, subst, false, IsTrue, List, get_or}
 use Rattle.std.specs.Option.{option_map_or}
-use Rattle.pz_classes.specs.Kinds.{is_process}
-use Rattle.pz_classes.specs.Numbers.{declaration}
+use Rattle.pz_bind_rules.specs.pz_classes_rules.Kinds.{is_process}
+use Rattle.pz_bind_rules.specs.pz_classes_rules.Numbers.{declaration}
 use Rattle.pz_bind.specs.declared.net.Node.{Node}
 use Rattle.pz_bind.proofs.NetFits.{process_class, declared_in}
 use Rattle.pz_bind.proofs.net.Net.class.Goals as goal

@@ -3,15 +3,15 @@ use Rattle.std.proofs.lemmas.List.{length-map}
 use Rattle.pz_classes.specs.CheckedView.{checked_model}
 use Rattle.pz_bind_levels.specs.Layouts.{AreLinked}
 use Rattle.pz_bind_levels.specs.devices.Walking.{layouts_of}
-use Rattle.pz_bind.specs.Nest.{processes}
-use Rattle.pz_bind.specs.Names.{wire_name}
-use Rattle.pz_bind.specs.Wires.{wires}
+use Rattle.pz_bind_rules.specs.Nest.{processes}
+use Rattle.pz_bind_rules.specs.Names.{wire_name}
+use Rattle.pz_bind_rules.specs.Wires.{wires}
 use Rattle.pz_bind.specs.devices.Nets.{node_at}
 use Rattle.pz_bind.specs.declared.net.Node.{Node}
-use Rattle.pz_bind.specs.devices.Layouts.{layouts}
+use Rattle.pz_bind_rules.specs.devices.Layouts.{layouts}
 use Rattle.pz_bind.specs.devices.Sites.{AreLevels}
 use Rattle.pz_bind.specs.devices.Processes.{AreProcesses, AreWires}
-use Rattle.pz_bind.proofs.Layouts.{are_linked}
+use Rattle.pz_bind_rules.proofs.Layouts.{are_linked}
 use Rattle.pz_bind.proofs.Placed.{expanded_levels, expanded_processes, expanded_wires}
 use Rattle.pz_bind.proofs.Counts.{few_processes, few_wires}
 use Rattle.pz_bind.proofs.NetFits.{ports_once, expansion_is}

@@ -1,12 +1,12 @@
 use Rattle.std.proofs.Common.{◌∙◌, ◌++◌, refl, ap, List, arith}
 use Rattle.std.specs.List.{flat_map}
-use Rattle.pz_syntax.specs.declared.clusters.Channel.{Channel}
-use Rattle.pz_syntax.specs.declared.clusters.ChannelEnd.{ChannelEnd}
-use Rattle.pz_syntax.specs.ClassView.{decl_view, model_view}
-use Rattle.pz_check_violations.specs.declared.violation.Violation.{Violation}
-use Rattle.pz_check_violations.specs.Least.{least_from}
-use Rattle.pz_classes.specs.Instances.{channels}
-use Rattle.pz_classes.proofs.FewMarks.{instances_few}
+use Rattle.pz_classes_code.specs.pz_syntax.declared.clusters.Channel.{Channel}
+use Rattle.pz_classes_code.specs.pz_syntax.declared.clusters.ChannelEnd.{ChannelEnd}
+use Rattle.pz_classes_code.specs.pz_syntax.ClassView.{decl_view, model_view}
+use Rattle.pz_classes.specs.pz_check_violations.declared.violation.Violation.{Violation}
+use Rattle.pz_classes.specs.pz_check_violations.Least.{least_from}
+use Rattle.pz_classes.specs.pz_classes_rules.Instances.{channels}
+use Rattle.pz_classes.proofs.pz_classes_rules_proofs.FewMarks.{instances_few}
 use Rattle.pz_check_instances.specs.devices.Ends.{Wanted, missing_at, wanted_at}
 use Rattle.pz_check_instances.specs.devices.Search.{wanted_of}
 use Rattle.pz_check_instances.proofs.Steps.{joined_each, list_step, least_step, list_done}

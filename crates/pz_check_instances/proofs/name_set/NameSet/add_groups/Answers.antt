@@ -1,6 +1,6 @@
 use Rattle.std.proofs.Common.{◌≡◌, ◌∙◌, ap, arith, List}
-use Rattle.pz_syntax.specs.declared.names.Id.{Id}
-use Rattle.pz_classes.specs.Members.{spelled}
+use Rattle.pz_classes_code.specs.pz_syntax.declared.names.Id.{Id}
+use Rattle.pz_classes.specs.pz_classes_rules.Members.{spelled}
 use Rattle.pz_check_instances.specs.devices.NameSets.{names_in, with_all}
 use Rattle.pz_check_instances.proofs.NameLists.{groups_step}
 use Rattle.pz_check_instances.proofs.name_set.NameSet.add_groups.Goals as goal

@@ -1,5 +1,5 @@
 use Rattle.std.proofs.Common.{◌≡◌, drop}
-use Rattle.pz_classes.specs.Members.{spelled, grouped}
+use Rattle.pz_classes.specs.pz_classes_rules.Members.{spelled, grouped}
 use Rattle.pz_check_instances.specs.devices.NameSets.{names_in, with_all}
 use Rattle.pz_check_instances.proofs.name_set.NameSet.add_groups.Given as goal
 

@@ -1,7 +1,7 @@
 use Rattle.std.proofs.Common.{◌≡◌, ◌∙◌, None, rules}
 use Rattle.std.specs.Option.{option_copied}
-use Rattle.pz_syntax.specs.ClassView.{decl_view}
-use Rattle.pz_classes.specs.Instances.{instances}
+use Rattle.pz_classes_code.specs.pz_syntax.ClassView.{decl_view}
+use Rattle.pz_classes.specs.pz_classes_rules.Instances.{instances}
 use Rattle.pz_check_instances.specs.devices.Ends.{place_named}
 use Rattle.pz_check_instances.proofs.Instances.{named_is, named_none}
 use Rattle.pz_check_instances.proofs.needs.Inside.instance.Goals as goal

@@ -1,5 +1,5 @@
 use Rattle.std.proofs.Common.{sym, ap, ◌∙◌, ℕ, List}
-use Rattle.pz_classes.specs.Members.{spelled, grouped}
+use Rattle.pz_classes.specs.pz_classes_rules.Members.{spelled, grouped}
 use Rattle.pz_check_instances.specs.devices.NameSets.{with_all}
 use Rattle.pz_check_instances.specs.devices.Open.{kept}
 use Rattle.pz_check_instances.proofs.NameLists.{with_all_append}

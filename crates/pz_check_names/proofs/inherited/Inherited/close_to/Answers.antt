@@ -1,5 +1,5 @@
-use Rattle.pz_classes.specs.Members.{own_fields, own_variables, own_ports}
-use Rattle.pz_classes.specs.CallRules.{own_messages}
+use Rattle.pz_classes.specs.pz_classes_rules.Members.{own_fields, own_variables, own_ports}
+use Rattle.pz_classes.specs.pz_classes_rules.CallRules.{own_messages}
 use Rattle.pz_check_names.specs.devices.Inherited.{own_methods, own_starts}
 use Rattle.pz_check_names.proofs.Along.{each_closed}
 use Rattle.pz_check_names.proofs.inherited.Inherited.close_to.Goals as goal

@@ -1,9 +1,9 @@
 use Rattle.std.proofs.Common.{List, map, Option, ◌∷◌, sym, subst}
 use Rattle.std.specs.Result.{OnOk}
-use Rattle.pz_syntax.specs.Classes.{DeclTree}
-use Rattle.pz_syntax.specs.ClassView.{decl_view, model_view}
-use Rattle.pz_classes.specs.Numbers.{declaration}
-use Rattle.pz_classes.proofs.FewMarks.{decl_fits}
+use Rattle.pz_classes_code.specs.pz_syntax.Classes.{DeclTree}
+use Rattle.pz_classes_code.specs.pz_syntax.ClassView.{decl_view, model_view}
+use Rattle.pz_classes.specs.pz_classes_rules.Numbers.{declaration}
+use Rattle.pz_classes.proofs.pz_classes_rules_proofs.FewMarks.{decl_fits}
 use Rattle.pz_classes_lineage.specs.Preorder.{outermost}
 use Rattle.pz_check_names.specs.devices.Inherited.{AreOpen}
 use Rattle.pz_check_names.proofs.Shown.{map_outermost}

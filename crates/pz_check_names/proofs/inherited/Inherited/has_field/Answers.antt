@@ -1,6 +1,6 @@
 use Rattle.std.proofs.Common.{◌∙◌, map}
-use Rattle.pz_classes.specs.Numbers.{declaration}
-use Rattle.pz_classes.specs.Members.{own_fields}
+use Rattle.pz_classes.specs.pz_classes_rules.Numbers.{declaration}
+use Rattle.pz_classes.specs.pz_classes_rules.Members.{own_fields}
 use Rattle.pz_check_names.specs.devices.Inherited.{of_each}
 use Rattle.pz_check_names.proofs.Along.{names_along}
 use Rattle.pz_check_names.proofs.inherited.Inherited.has_field.Goals as goal

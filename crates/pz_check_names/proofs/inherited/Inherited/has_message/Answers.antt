@@ -1,6 +1,6 @@
 use Rattle.std.proofs.Common.{◌∙◌, map}
-use Rattle.pz_classes.specs.Numbers.{declaration}
-use Rattle.pz_classes.specs.CallRules.{is_message, own_messages}
+use Rattle.pz_classes.specs.pz_classes_rules.Numbers.{declaration}
+use Rattle.pz_classes.specs.pz_classes_rules.CallRules.{is_message, own_messages}
 use Rattle.pz_check_names.specs.devices.Inherited.{of_each}
 use Rattle.pz_check_names.proofs.Shown.{value_shown}
 use Rattle.pz_check_names.proofs.Along.{things_along}

@@ -1,7 +1,7 @@
 use Rattle.std.proofs.Common.{◌≡◌, ◌∙◌, subst, map}
 use Rattle.std.specs.List.{list_any}
-use Rattle.pz_classes.specs.Numbers.{declaration}
-use Rattle.pz_classes.specs.Methods.{Signature, same_signature, process_signature}
+use Rattle.pz_classes.specs.pz_classes_rules.Numbers.{declaration}
+use Rattle.pz_classes.specs.pz_classes_rules.Methods.{Signature, same_signature, process_signature}
 use Rattle.pz_check_names.specs.devices.Inherited.{of_each, own_methods}
 use Rattle.pz_check_names.proofs.Shown.{value_shown}
 use Rattle.pz_check_names.proofs.Calls.{methods_along}

@@ -1,5 +1,5 @@
 use Rattle.std.proofs.Common.{◌∙◌, map}
-use Rattle.pz_classes.specs.Numbers.{declaration}
+use Rattle.pz_classes.specs.pz_classes_rules.Numbers.{declaration}
 use Rattle.pz_check_names.specs.devices.Inherited.{of_each, own_starts}
 use Rattle.pz_check_names.proofs.Shown.{value_shown}
 use Rattle.pz_check_names.proofs.Along.{starts_along}

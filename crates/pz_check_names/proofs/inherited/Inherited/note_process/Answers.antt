@@ -1,6 +1,6 @@
 use Rattle.std.proofs.Common.{[]}
-use Rattle.pz_classes.specs.Members.{own_variables, own_ports, section}
-use Rattle.pz_classes.specs.CallRules.{own_messages}
+use Rattle.pz_classes.specs.pz_classes_rules.Members.{own_variables, own_ports, section}
+use Rattle.pz_classes.specs.pz_classes_rules.CallRules.{own_messages}
 use Rattle.pz_check_names.specs.devices.Inherited.{of_each, own_methods, own_starts}
 use Rattle.pz_check_names.proofs.inherited.Inherited.note_process.Goals as goal
 

@@ -1,4 +1,4 @@
-use Rattle.pz_classes.proofs.FewMarks.{data_methods_fit, data_inputs_fit}
+use Rattle.pz_classes.proofs.pz_classes_rules_proofs.FewMarks.{data_methods_fit, data_inputs_fit}
 use Rattle.pz_check_names.proofs.selectors.Selectors.add_declared.Goals as goal
 
 pub add_methods-requires : goal.add_methods-requires

@@ -1,6 +1,6 @@
 use Rattle.std.proofs.Common.{◌≡◌, List, ℕ, ◌||◌, map, drop}
-use Rattle.pz_syntax.specs.ClassView.{data_method_view}
-use Rattle.pz_classes.specs.Methods.{data_signature}
+use Rattle.pz_classes_code.specs.pz_syntax.ClassView.{data_method_view}
+use Rattle.pz_classes.specs.pz_classes_rules.Methods.{data_signature}
 use Rattle.pz_check_names.specs.devices.Sets.{has_selector}
 use Rattle.pz_check_names.specs.devices.Scopes.{is_one_of, asked}
 use Rattle.pz_check_names.proofs.selectors.Selectors.add_methods.Given as goal

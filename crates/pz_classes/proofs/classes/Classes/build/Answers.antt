@@ -1,11 +1,11 @@
 use Rattle.std.proofs.Common.{◌≡◌, ◌∙◌, ap, sym, ℕ, List, Option, length, arith}
-use Rattle.pz_syntax.specs.ClassView.{model_view}
+use Rattle.pz_classes_code.specs.pz_syntax.ClassView.{model_view}
 use Rattle.pz_check_violations.proofs.Leasts.{least_at_some, least_at_none}
-use Rattle.pz_classes.specs.Violations.{Violates}
+use Rattle.pz_classes_rules.specs.Violations.{Violates}
 use Rattle.pz_classes.proofs.Building.{each_is_within, rounds_are, nobody_seen, walk_is, walk_of}
-use Rattle.pz_classes.proofs.FewMarks.{room}
-use Rattle.pz_classes.proofs.Found.{least_found}
-use Rattle.pz_classes.proofs.Rounds.{nobody_goes_round}
+use Rattle.pz_classes_rules.proofs.FewMarks.{room}
+use Rattle.pz_classes_rules.proofs.Found.{least_found}
+use Rattle.pz_classes_rules.proofs.Rounds.{nobody_goes_round}
 use Rattle.pz_classes.proofs.classes.Classes.build.Goals as goal
 
 pub returns-in-Some-clause-refused : goal.returns-in-Some-clause-refused

@@ -1,6 +1,6 @@
 use Rattle.std.proofs.Common.{◌≡◌, ◌∙◌, rules}
 use Rattle.std.specs.Option.{option_map}
-use Rattle.pz_classes.specs.Tables.{class_id}
+use Rattle.pz_classes_rules.specs.ClassNames.{class_id}
 use Rattle.pz_classes.proofs.Belongs.{class_belongs}
 use Rattle.pz_classes.proofs.classes.Classes.class.Goals as goal
 

@@ -1,11 +1,11 @@
 use Rattle.std.proofs.Common.{◌≡◌, ap, map, ◌∙◌, Option, slice_get}
 use Rattle.std.specs.Option.{option_and_then}
-use Rattle.pz_classes.specs.declared.method_id.Counts.TheVariants.{Data}
-use Rattle.pz_classes.specs.declared.method_id.MethodId.{MethodId}
-use Rattle.pz_classes.specs.Methods.{Signature}
-use Rattle.pz_classes.specs.Bodies.{bodies}
+use Rattle.pz_classes_rules.specs.declared.method_id.Counts.TheVariants.{Data}
+use Rattle.pz_classes_rules.specs.declared.method_id.MethodId.{MethodId}
+use Rattle.pz_classes_rules.specs.Methods.{Signature}
+use Rattle.pz_classes_rules.specs.Bodies.{bodies}
 use Rattle.pz_classes.specs.devices.Rows.{row_view, rows}
-use Rattle.pz_classes.proofs.MethodBodies.{body_is}
+use Rattle.pz_classes_rules.proofs.MethodBodies.{body_is}
 use Rattle.pz_classes.proofs.RowLookups.{found_is}
 use Rattle.pz_classes.proofs.Belongs.{method_belongs}
 use Rattle.pz_classes.proofs.classes.Classes.method.Goals as goal

@@ -1,6 +1,6 @@
 use Rattle.std.proofs.Common.{◌≡◌, ap, rules}
 use Rattle.std.specs.Option.{option_map}
-use Rattle.pz_classes.specs.Tables.{class_id}
+use Rattle.pz_classes_rules.specs.ClassNames.{class_id}
 use Rattle.pz_classes.specs.devices.Rows.{Row}
 use Rattle.pz_classes.proofs.Belongs.{parent_belongs}
 use Rattle.pz_classes.proofs.classes.Classes.parent.Goals as goal

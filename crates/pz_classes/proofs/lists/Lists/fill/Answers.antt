@@ -1,10 +1,10 @@
 use Rattle.std.proofs.Common.{sym, subst}
 use Rattle.std.proofs.lemmas.List.Elements.{All-get_or}
-use Rattle.pz_syntax.specs.ClassView.{model_view}
-use Rattle.pz_classes.specs.Ancestors.{ancestors}
+use Rattle.pz_classes_code.specs.pz_syntax.ClassView.{model_view}
+use Rattle.pz_classes_rules.specs.Ancestors.{ancestors}
 use Rattle.pz_classes.specs.devices.Inherited.{HasMembers}
 use Rattle.pz_classes.specs.devices.Fronts.{listed, IsEnd}
-use Rattle.pz_classes.proofs.FewMarks.{members_fit}
+use Rattle.pz_classes.proofs.FewMembers.{members_fit}
 use Rattle.pz_classes.proofs.Filling.{fills_end}
 use Rattle.pz_classes.proofs.lists.Lists.fill.Goals as goal
 

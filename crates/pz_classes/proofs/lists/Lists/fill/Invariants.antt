@@ -1,5 +1,5 @@
 use Rattle.std.proofs.Common.{take}
-use Rattle.pz_syntax.specs.ClassView.{model_view}
+use Rattle.pz_classes_code.specs.pz_syntax.ClassView.{model_view}
 use Rattle.pz_classes.specs.devices.Fronts.{Fills, classes_of}
 use Rattle.pz_classes.proofs.lists.Lists.fill.Given as goal
 

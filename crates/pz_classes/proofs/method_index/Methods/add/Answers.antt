@@ -1,6 +1,6 @@
 use Rattle.std.proofs.Common.{◌∙◌, subst, IsSome, List, ℕ, rules}
 use Rattle.std.proofs.lemmas.Result.{on_ok_weaker}
-use Rattle.pz_classes.specs.Methods.{Signature, method_id}
+use Rattle.pz_classes_rules.specs.Methods.{Signature, method_id}
 use Rattle.pz_classes.specs.devices.MethodIn.{method_in}
 use Rattle.pz_classes.proofs.Overloads.{Put, put_is_found, first_is_found}
 use Rattle.pz_classes.proofs.method_index.Methods.add.Goals as goal

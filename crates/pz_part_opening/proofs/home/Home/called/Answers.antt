@@ -1,8 +1,8 @@
 use Rattle.std.proofs.Common.{inr, ◌∙◌, subst}
 use Rattle.std.specs.Coded.{le_prop}
 use Rattle.std.proofs.Math.Logic.{∥∥₁_elim}
-use Rattle.pz_syntax.specs.Classes.{ModelTree}
-use Rattle.pz_classes.specs.Soundness.{IsSound}
+use Rattle.pz_classes_code.specs.pz_syntax.Classes.{ModelTree}
+use Rattle.pz_classes.specs.pz_classes_rules.Soundness.{IsSound}
 use Rattle.pz_classes.specs.CheckedView.{checked_model}
 use Rattle.pz_part_opening.specs.Homes.{home_view}
 use Rattle.pz_part_opening.proofs.Called.{has_class, is_two, none_called, data_called, is_called}

@@ -1,5 +1,5 @@
 use Rattle.std.proofs.Common.{◌≡◌, ◌∙◌, ℕ, List, drop, length, refl, ap, rules, arith}
-use Rattle.pz_classes_code.specs.declared.step.Step.{Step}
+use Rattle.pz_bind_rules.specs.pz_classes_code.declared.step.Step.{Step}
 use Rattle.pz_rules.proofs.Rests.{behind_next, behind_last}
 use Rattle.pz_rules.proofs.rest.Rest.behind_first.Goals.{then-first-len, else-first-len}
 use Rattle.pz_rules.proofs.rest.Rest.behind_first.Goals as goal

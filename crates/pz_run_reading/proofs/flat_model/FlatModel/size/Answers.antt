@@ -1,7 +1,7 @@
 use Rattle.std.proofs.Common.{sym, length}
-use Rattle.pz_classes.specs.CheckedView.{checked_model}
-use Rattle.pz_bind.specs.Nest as nest
-use Rattle.pz_bind.specs.Wires as wiring
+use Rattle.pz_bind.specs.pz_classes.CheckedView.{checked_model}
+use Rattle.pz_bind_rules.specs.Nest as nest
+use Rattle.pz_bind_rules.specs.Wires as wiring
 use Rattle.pz_run_reading.proofs.Merely.{number_merely}
 use Rattle.pz_run_reading.proofs.flat_model.FlatModel.size.Goals as goal
 

@@ -1,5 +1,5 @@
 use Rattle.std.proofs.Common.{List, ◌∷◌, refl, sym, subst, ap}
-use Rattle.pz_classes.specs.CheckedView.{checked_model}
+use Rattle.pz_bind.specs.pz_classes.CheckedView.{checked_model}
 use Rattle.pz_tree.specs.declared.tree.Tree.{Tree}
 use Rattle.pz_sim.specs.devices.Borrowed.{told}
 use Rattle.pz_sim.specs.devices.Questions.{Takes, verdict_in}

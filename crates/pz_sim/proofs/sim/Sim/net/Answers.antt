@@ -1,5 +1,5 @@
 use Rattle.std.proofs.Common.{subst}
-use Rattle.pz_syntax.specs.Classes.{ModelTree}
+use Rattle.pz_rules.specs.pz_syntax.Classes.{ModelTree}
 use Rattle.pz_bind.specs.devices.Nets.{IsNet}
 use Rattle.pz_sim.proofs.Kept.{model_is}
 use Rattle.pz_sim.proofs.sim.Sim.net.Goals as goal

@@ -1,8 +1,8 @@
 use Rattle.std.proofs.Common.{◌-◌, length, refl, sym, subst, arith}
 use Rattle.std.specs.Prelude.{◌<◌, IfOk}
 use Rattle.std.proofs.lemmas.Option.{slice_get_read}
-use Rattle.pz_classes.specs.CheckedView.{checked_model}
-use Rattle.pz_classes.specs.Soundness.{IsSound}
+use Rattle.pz_bind.specs.pz_classes.CheckedView.{checked_model}
+use Rattle.pz_rules.specs.pz_classes_rules.Soundness.{IsSound}
 use Rattle.pz_match.specs.Pairs.{taken}
 use Rattle.pz_sim_totals.specs.declared.total.Total.{Total}
 use Rattle.pz_tree.specs.pz_term_processes.Standing.{setting_of}

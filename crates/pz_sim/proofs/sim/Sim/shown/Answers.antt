@@ -2,9 +2,9 @@ use Rattle.std.proofs.Common.{[], ◌∷◌, length, refl, arith}
 use Rattle.std.proofs.Math.Logic.{∥∥₁_map}
 use Rattle.std.proofs.lemmas.Option.{slice_get_read}
 use Rattle.std.proofs.lemmas.Result.{IfOk-weaker}
-use Rattle.pz_state.specs.States.{variable}
-use Rattle.pz_copy.specs.Packing.{IsParcelOf}
-use Rattle.pz_classes.specs.CheckedView.{checked_model}
+use Rattle.pz_rules.specs.pz_state.States.{variable}
+use Rattle.pz_rules.specs.pz_copy.Packing.{IsParcelOf}
+use Rattle.pz_bind.specs.pz_classes.CheckedView.{checked_model}
 use Rattle.pz_rules.specs.devices.Start.{start_of}
 use Rattle.pz_tree.specs.pz_term_processes.Standing.{setting_of}
 use Rattle.pz_term_simulator.specs.Shown.{HoldsValue, IsShown}

@@ -1,6 +1,6 @@
 use Rattle.std.proofs.Common.{ℕ, subst}
-use Rattle.pz_classes.specs.CheckedView.{checked_model}
-use Rattle.pz_classes.specs.Soundness.{IsSound}
+use Rattle.pz_bind.specs.pz_classes.CheckedView.{checked_model}
+use Rattle.pz_rules.specs.pz_classes_rules.Soundness.{IsSound}
 use Rattle.pz_tree.specs.pz_term_processes.Standing.{setting_of}
 use Rattle.pz_sim_totals.specs.Sums.{all}
 use Rattle.pz_sim_laws.specs.Deciding.{offers_in}

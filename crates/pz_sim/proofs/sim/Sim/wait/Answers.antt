@@ -1,6 +1,6 @@
 use Rattle.std.proofs.Common.{◌<◌, ◌+◌, ◌^◌, ℕ, sym, subst, arith}
-use Rattle.pz_classes.specs.CheckedView.{checked_model}
-use Rattle.pz_classes.specs.Soundness.{IsSound}
+use Rattle.pz_bind.specs.pz_classes.CheckedView.{checked_model}
+use Rattle.pz_rules.specs.pz_classes_rules.Soundness.{IsSound}
 use Rattle.pz_tree.specs.pz_term_processes.Standing.{setting_of}
 use Rattle.pz_sim.proofs.Kept.{setting_at}
 use Rattle.pz_sim.proofs.Timed.{kept_at_time, clock_before, time_passes}

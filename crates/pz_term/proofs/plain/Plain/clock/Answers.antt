@@ -1,4 +1,4 @@
-use Rattle.pz_classes.specs.CheckedView.{checked_model}
+use Rattle.pz_bind.specs.pz_classes.CheckedView.{checked_model}
 use Rattle.pz_term_processes.specs.Standing.{setting_of}
 use Rattle.pz_term.proofs.Kept.{clock_is}
 use Rattle.pz_term.proofs.plain.Plain.clock.Goals as goal

@@ -1,6 +1,6 @@
 use Rattle.std.proofs.Common.{subst}
-use Rattle.pz_classes.specs.CheckedView.{checked_model}
-use Rattle.pz_classes.specs.Soundness.{IsSound}
+use Rattle.pz_bind.specs.pz_classes.CheckedView.{checked_model}
+use Rattle.pz_rules.specs.pz_classes_rules.Soundness.{IsSound}
 use Rattle.pz_term_processes.specs.Standing.{setting_of}
 use Rattle.pz_term.proofs.Kept.{whole_offers, none_too_high, no_offers}
 use Rattle.pz_term.proofs.plain.Plain.offers.Goals as goal

@@ -1,4 +1,4 @@
-use Rattle.pz_classes.specs.CheckedView.{checked_model}
+use Rattle.pz_bind.specs.pz_classes.CheckedView.{checked_model}
 use Rattle.pz_term_processes.specs.Standing.{setting_of, config_of}
 use Rattle.pz_term.proofs.Moved.{outlook_holds, starts_there}
 use Rattle.pz_term.proofs.plain.Plain.ready.Goals as goal

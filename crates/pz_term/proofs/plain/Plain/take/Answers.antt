@@ -1,5 +1,5 @@
 use Rattle.std.proofs.Common.{arith}
-use Rattle.pz_classes.specs.CheckedView.{checked_model}
+use Rattle.pz_bind.specs.pz_classes.CheckedView.{checked_model}
 use Rattle.pz_rules.specs.declared.moment.Moment.TheVariants.{Actions}
 use Rattle.pz_term_processes.specs.Standing.{setting_of}
 use Rattle.pz_term.specs.Plains.{simulation_of}

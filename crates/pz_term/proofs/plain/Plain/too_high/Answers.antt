@@ -1,6 +1,6 @@
 use Rattle.std.proofs.Common.{subst}
-use Rattle.pz_classes.specs.CheckedView.{checked_model}
-use Rattle.pz_classes.specs.Soundness.{IsSound}
+use Rattle.pz_bind.specs.pz_classes.CheckedView.{checked_model}
+use Rattle.pz_rules.specs.pz_classes_rules.Soundness.{IsSound}
 use Rattle.pz_term_processes.specs.Standing.{setting_of}
 use Rattle.pz_term.proofs.Moved.{high_holds, starts_high}
 use Rattle.pz_term.proofs.plain.Plain.too_high.Goals as goal

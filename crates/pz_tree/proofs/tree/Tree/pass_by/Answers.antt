@@ -1,7 +1,7 @@
 use Rattle.std.proofs.Common.{◌≡◌, ◌+◌, ◌-◌, subst, refl, arith}
 use Rattle.std.proofs.Math.Logic.{∥∥₁_map}
-use Rattle.pz_classes.specs.CheckedView.{checked_model}
-use Rattle.pz_classes.specs.Soundness.{IsSound}
+use Rattle.pz_bind.specs.pz_classes.CheckedView.{checked_model}
+use Rattle.pz_rules.specs.pz_classes_rules.Soundness.{IsSound}
 use Rattle.pz_tree.specs.Trees.{IsFresh}
 use Rattle.pz_tree.proofs.Elapsed.{rested, seen_later}
 use Rattle.pz_tree.proofs.tree.Tree.pass_by.Goals as goal

@@ -1,6 +1,6 @@
 use Rattle.std.proofs.Common.{refl}
 use Rattle.std.proofs.lemmas.Result.{IfOk-weaker}
-use Rattle.pz_classes.specs.CheckedView.{checked_model}
+use Rattle.pz_bind.specs.pz_classes.CheckedView.{checked_model}
 use Rattle.pz_tree.specs.Asking.{AreReceiveOffers}
 use Rattle.pz_tree.specs.Trees.{at_in, term_in}
 use Rattle.pz_tree.specs.devices.Wires.{AreReceivedOver}

@@ -1,10 +1,10 @@
 use Rattle.std.proofs.Common.{subst}
 use Rattle.std.proofs.Math.Logic.{∥∥₁_map, ∥∥₁_elim}
 use Rattle.std.proofs.Math.Bridge.{le_prop}
-use Rattle.pz_classes.specs.CheckedView.{checked_model}
+use Rattle.pz_bind.specs.pz_classes.CheckedView.{checked_model}
 use Rattle.pz_nodes.specs.Arena.{find}
 use Rattle.pz_rules.specs.Settings.{Context}
-use Rattle.pz_tree_refreshing.specs.Refreshing.{RefreshRule}
+use Rattle.pz_tree_elapsing.specs.pz_tree_refreshing.Refreshing.{RefreshRule}
 use Rattle.pz_tree.specs.Trees.{IsThere}
 use Rattle.pz_tree.proofs.Changed.{on_ok, refreshed, nothing_asked}
 use Rattle.pz_tree.proofs.tree.Tree.refresh.Goals as goal

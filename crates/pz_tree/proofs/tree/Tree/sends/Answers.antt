@@ -1,6 +1,6 @@
 use Rattle.std.proofs.Common.{ap, subst}
 use Rattle.std.proofs.lemmas.Result.{IfOk-weaker}
-use Rattle.pz_classes.specs.CheckedView.{checked_model}
+use Rattle.pz_bind.specs.pz_classes.CheckedView.{checked_model}
 use Rattle.pz_nodes.specs.Arena.{find}
 use Rattle.pz_rules.specs.declared.limits.Limits.{Limits}
 use Rattle.pz_rules.specs.Settings.{Context}

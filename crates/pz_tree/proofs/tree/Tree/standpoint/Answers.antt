@@ -1,6 +1,6 @@
 use Rattle.std.proofs.Math.Logic.{∥∥₁_map}
-use Rattle.pz_classes.specs.CheckedView.{checked_model}
-use Rattle.pz_classes.specs.devices.Rows.{AreClasses}
+use Rattle.pz_bind.specs.pz_classes.CheckedView.{checked_model}
+use Rattle.pz_bind.specs.pz_classes.devices.Rows.{AreClasses}
 use Rattle.pz_tree.proofs.tree.Tree.standpoint.Goals as goal
 
 pub returns-clause-known : goal.returns-clause-known

@@ -1,5 +1,0 @@
-use Rattle.pz_classes.proofs.SoundBodies.{bodies_fit}
-use Rattle.pz_classes.proofs.laws.sound_bodies_fit.Goals as goal
-
-pub returns : goal.returns
-returns c = record { law = bodies_fit }

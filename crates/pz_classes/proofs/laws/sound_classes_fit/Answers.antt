@@ -1,5 +1,0 @@
-use Rattle.pz_classes.proofs.SoundClasses.{classes_fit}
-use Rattle.pz_classes.proofs.laws.sound_classes_fit.Goals as goal
-
-pub returns : goal.returns
-returns c = record { law = classes_fit }

@@ -1,5 +1,0 @@
-use Rattle.pz_classes.proofs.SoundNumbers.{numbers_fit}
-use Rattle.pz_classes.proofs.laws.sound_numbers_fit.Goals as goal
-
-pub returns : goal.returns
-returns c = record { law = numbers_fit }

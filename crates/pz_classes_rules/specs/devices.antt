@@ -1,0 +1,2 @@
+pub mod ViolationList
+pub mod Rounds

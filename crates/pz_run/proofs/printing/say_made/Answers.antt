@@ -1,5 +1,0 @@
-use Rattle.pz_run.proofs.Sayings.{said_nothing}
-use Rattle.pz_run.proofs.printing.say_made.Goals as goal
-
-pub returns-in-Err : goal.returns-in-Err
-returns-in-Err g c text is = said_nothing _ text c.args.status

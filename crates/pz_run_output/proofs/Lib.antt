@@ -1,0 +1,16 @@
+pub mod Sayings
+pub mod OneEnd
+pub mod OfTexts
+pub mod RingLength
+pub mod Unread
+pub mod CanEnds
+pub mod Keeps
+pub mod Outcomes
+pub mod OneFiles
+pub mod OfJobs
+pub mod Formatted
+pub mod FormatsBack
+pub mod OneEndings
+pub mod Headerless
+pub mod TwoAnswers
+pub mod TwoFiles

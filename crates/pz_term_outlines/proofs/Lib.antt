@@ -1,0 +1,4 @@
+pub mod Capping
+mod Outlined
+mod Rounds
+pub mod Beside

@@ -1,4 +1,0 @@
-use Rattle.pz_term_residual.proofs.outline.opened_height.Goals as goal
-
-pub returns : goal.returns
-returns c = λ s. c.step_within.ensures s

@@ -1,5 +1,0 @@
-use Rattle.pz_term_residual.proofs.Outlined.{outlined_above}
-use Rattle.pz_term_residual.proofs.outline.outline_above.Goals as goal
-
-pub returns : goal.returns
-returns c = λ t n is above. outlined_above c.above.result n t (c.above.ensures n is) above

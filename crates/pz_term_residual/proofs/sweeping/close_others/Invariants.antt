@@ -1,8 +1,0 @@
-use Rattle.std.proofs.Common.{◌≡◌, nat_eq}
-use Rattle.std.specs.List.{list_any}
-use Rattle.pz_state.specs.Marks.{changed}
-use Rattle.pz_term_residual.specs.devices.Swept.{swept_up_to}
-use Rattle.pz_term_residual.proofs.sweeping.close_others.Given as goal
-
-abbrev pub invariant-loop-frame : goal.invariant-loop-frame
-invariant-loop-frame l = l.state ≡ changed l.initial.state (swept_up_to (λ n. list_any (nat_eq n) l.standing) l.frame-index l.initial.state.held)
