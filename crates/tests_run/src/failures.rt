@@ -31,11 +31,11 @@ fn a_call_of_the_files_that_fails_is_a_read_fault(rt: HostRuntime) -> Result<(),
             } else {
                 (0, TRACE)
             };
-            expect(&rt, rt.alloc(), "run m", &mut files, status, output)?;
+            expect(rt.alloc(), "run m", &mut files, status, output)?;
         }
     }
     let mut files = one_file(rt.alloc(), MODEL, 0)?;
-    expect(&rt, rt.alloc(), "run n", &mut files, 8, "read fault: n\n")?;
+    expect(rt.alloc(), "run n", &mut files, 8, "read fault: n\n")?;
     Ok(())
 }
 
@@ -70,12 +70,12 @@ fn a_write_that_fails_leaves_what_was_taken_before(rt: HostRuntime) -> Result<()
             let lines = front.iter().filter(|b| **b == b'\n').count();
             let mut files = one_file(rt.alloc(), MODEL, 0)?;
             let writes = vec![in rt.alloc(); lines as u64 + 1]?;
-            expect_through(&rt, rt.alloc(), "run m", &mut files, writes, 9, front)?;
+            expect_through(rt.alloc(), "run m", &mut files, writes, 9, front)?;
         }
     }
     expect_narrow(&rt, rt.alloc(), 90, 0, trace)?;
     let mut files = one_file(rt.alloc(), MODEL, 0)?;
     let writes = vec![in rt.alloc(); 7]?;
-    expect_through(&rt, rt.alloc(), "run m", &mut files, writes, 0, trace)?;
+    expect_through(rt.alloc(), "run m", &mut files, writes, 0, trace)?;
     Ok(())
 }

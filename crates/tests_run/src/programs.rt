@@ -2,7 +2,6 @@
 // answer, with the bytes that are printed.
 use pz_io::RoomySink;
 use std::alloc::{AllocError, Global};
-use std::process::Abort;
 use std::test::Fail;
 use tests_run_calls::{MODEL, TRACE, call, expect, one_file};
 
@@ -11,16 +10,9 @@ const LAYOUT: &str =
 
 // Calls the program with these words on a model of this text, and compares the status and what is
 // printed.
-fn expect_of(
-    rt: &impl Abort,
-    alloc: Global,
-    line: &str,
-    text: &str,
-    status: u8,
-    output: &str,
-) -> Result<(), AllocError> {
+fn expect_of(alloc: Global, line: &str, text: &str, status: u8, output: &str) -> Result<(), Fail> {
     let mut files = one_file(alloc, text, 0)?;
-    expect(rt, alloc, line, &mut files, status, output)
+    expect(alloc, line, &mut files, status, output)
 }
 
 #[test]
@@ -69,7 +61,7 @@ fn a_command_line_gives_its_status_and_its_lines(rt: HostRuntime) -> Result<(), 
         ("", 2, usage),
     ];
     for (line, status, output) in rows {
-        expect_of(&rt, rt.alloc(), line, MODEL, status, output)?;
+        expect_of(rt.alloc(), line, MODEL, status, output)?;
     }
     Ok(())
 }
@@ -78,7 +70,7 @@ fn a_command_line_gives_its_status_and_its_lines(rt: HostRuntime) -> Result<(), 
 fn a_text_may_be_laid_out_in_any_way(rt: HostRuntime) -> Result<(), Fail> {
     let same =
         "process class P // a class\r\ninit a()()\r\nmethods a()() /* its\tmethod */\r\nskip;\r\ndelay 3;\r\nskip\r\nsystem instances p : P\r\n";
-    expect_of(&rt, rt.alloc(), "run m", same, 0, TRACE)?;
+    expect_of(rt.alloc(), "run m", same, 0, TRACE)?;
     Ok(())
 }
 
@@ -102,7 +94,7 @@ fn a_run_that_cannot_go_on_says_why(rt: HostRuntime) -> Result<(), Fail> {
         ),
     ];
     for (text, status, output) in rows {
-        expect_of(&rt, rt.alloc(), "run m --summary", text, status, output)?;
+        expect_of(rt.alloc(), "run m --summary", text, status, output)?;
     }
     Ok(())
 }
@@ -136,7 +128,7 @@ fn a_text_is_refused_with_its_kind_and_place(rt: HostRuntime) -> Result<(), Fail
     ];
     for (text, refusal) in rows {
         let line = format!(in rt.alloc(); "model refused: {refusal}\n")?;
-        expect_of(&rt, rt.alloc(), "run m --first", text, 3, line.as_str())?;
+        expect_of(rt.alloc(), "run m --first", text, 3, line.as_str())?;
     }
     Ok(())
 }
@@ -167,7 +159,7 @@ fn a_check_counts_the_processes_and_wires_of_a_model(rt: HostRuntime) -> Result<
         ),
     ];
     for (text, status, output) in rows {
-        expect_of(&rt, rt.alloc(), "check m", text, status, output)?;
+        expect_of(rt.alloc(), "check m", text, status, output)?;
     }
     Ok(())
 }
@@ -176,7 +168,7 @@ fn a_check_counts_the_processes_and_wires_of_a_model(rt: HostRuntime) -> Result<
 fn a_model_may_have_eight_mebibytes_and_no_byte_more(rt: HostRuntime) -> Result<(), Fail> {
     for (length, status, output) in [(8_388_608, 0, TRACE), (8_388_609, 7, "too long: m\n")] {
         let mut files = one_file(rt.alloc(), MODEL, length)?;
-        expect(&rt, rt.alloc(), "run m --first", &mut files, status, output)?;
+        expect(rt.alloc(), "run m --first", &mut files, status, output)?;
     }
     Ok(())
 }
@@ -190,7 +182,7 @@ fn a_string_of_the_text_is_as_long_as_the_text_allows(rt: HostRuntime) -> Result
     )?;
     assert_eq!(rt; text.len(), 8_388_608);
     let output = "actions 2 passes 0 clock 0 fault StoreFull p 3:8\n";
-    expect_of(&rt, rt.alloc(), "run m --summary", text.as_str(), 4, output)?;
+    expect_of(rt.alloc(), "run m --summary", text.as_str(), 4, output)?;
     Ok(())
 }
 
@@ -200,7 +192,7 @@ fn a_hundred_and_one_constructs_are_too_many(rt: HostRuntime) -> Result<(), Fail
     let close = ")".repeat(rt.alloc(), 101)?;
     let text = format!(in rt.alloc(); "process class P methods a()()\n{open}skip{close}")?;
     let refusal = "model refused: TooNested 2:101\n";
-    expect_of(&rt, rt.alloc(), "run m --first", text.as_str(), 3, refusal)?;
+    expect_of(rt.alloc(), "run m --first", text.as_str(), 3, refusal)?;
     Ok(())
 }
 
@@ -271,7 +263,7 @@ fn methods_open_as_far_as_a_term_may_be_high(rt: HostRuntime) -> Result<(), Fail
     ];
     for (calls, behind, last, line, status, output) in rows {
         let text = chain(rt.alloc(), calls, behind, last)?;
-        expect_of(&rt, rt.alloc(), line, text.as_str(), status, output)?;
+        expect_of(rt.alloc(), line, text.as_str(), status, output)?;
     }
     Ok(())
 }

@@ -4,7 +4,8 @@
 use pz_io::{Files, MemFiles, RoomySink, Sink};
 use pz_run::{Finish, run_program};
 use std::alloc::{AllocError, Global};
-use std::process::Abort;
+use std::fmt::{self, Display, Formatter, Write};
+use std::test::Fail;
 
 /// A process that skips, lets three clock units pass, and skips.
 pub const MODEL: &str =
@@ -57,31 +58,53 @@ pub fn call<F: Files, W: Sink>(
     Ok(finish.status.number())
 }
 
-/// The same, and compares the status and what is printed. The listed writes fail.
+// An answer that was not expected: the words of the call, its status and what it printed.
+#[derive(Drop)]
+struct Unexpected<'a> {
+    line: &'a str,
+    status: u8,
+    output: &'a [u8],
+}
+
+impl<'a> Display for Unexpected<'a> {
+    fn fmt<W: Write>(&self, f: &mut Formatter<W>) -> fmt::Result {
+        write!(f, "{}: status {}", self.line, self.status)?;
+        match str::from_utf8(self.output) {
+            Ok(text) => write!(f, ", {}", text),
+            Err(_) => write!(f, ", and no text"),
+        }
+    }
+}
+
+/// The same, and fails where the status or what is printed is another. The listed writes fail.
 pub fn expect_through<F: Files>(
-    rt: &impl Abort,
     alloc: Global,
     line: &str,
     files: &mut F,
     writes: Vec<u64>,
     status: u8,
     output: &[u8],
-) -> Result<(), AllocError> {
+) -> Result<(), Fail> {
     let mut out = RoomySink::new(alloc, 100_000, writes)?;
-    assert_eq!(rt; call(alloc, line, files, &mut out)?, status, "{line}");
-    assert_eq!(rt; out.bytes(), output, "{line}");
-    Ok(())
+    let answer = call(alloc, line, files, &mut out)?;
+    if answer == status && out.bytes() == output {
+        return Ok(());
+    }
+    Err(Fail::new(Unexpected {
+        line,
+        status: answer,
+        output: out.bytes(),
+    }))
 }
 
 /// The same where no write fails.
 pub fn expect<F: Files>(
-    rt: &impl Abort,
     alloc: Global,
     line: &str,
     files: &mut F,
     status: u8,
     output: &str,
-) -> Result<(), AllocError> {
+) -> Result<(), Fail> {
     let none = Vec::new(alloc);
-    expect_through(rt, alloc, line, files, none, status, output.as_bytes())
+    expect_through(alloc, line, files, none, status, output.as_bytes())
 }

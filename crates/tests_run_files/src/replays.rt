@@ -1,7 +1,6 @@
 // Replays where a trace is cut, where it is long, and where files or the output fail.
 use pz_io::{FailingFiles, MemFiles};
 use std::alloc::{AllocError, Global};
-use std::process::Abort;
 use std::test::Fail;
 use tests_run_calls::{expect, expect_through};
 
@@ -44,12 +43,7 @@ const EXPECTED_OF_SECOND: [&str; 5] = [
 ];
 
 // Replays each proper front of a trace, where a line of `expected` is what is told behind as many lines.
-fn expect_fronts(
-    rt: &impl Abort,
-    alloc: Global,
-    trace: &[u8],
-    expected: &[&str],
-) -> Result<(), AllocError> {
+fn expect_fronts(alloc: Global, trace: &[u8], expected: &[&str]) -> Result<(), Fail> {
     for cut in 0..trace.len() {
         let front = &trace[..cut];
         let whole = match front.iter().rposition(|b| *b == b'\n') {
@@ -63,17 +57,17 @@ fn expect_fronts(
         output.extend_from_slice(refused.as_bytes())?;
         let mut files = two_files(alloc, front.to_vec(alloc)?)?;
         let none = Vec::new(alloc);
-        expect_through(rt, alloc, "replay m t", &mut files, none, 6, &output)?;
+        expect_through(alloc, "replay m t", &mut files, none, 6, &output)?;
     }
     Ok(())
 }
 
 #[test]
 fn each_front_of_a_trace_is_refused_behind_its_whole_lines(rt: HostRuntime) -> Result<(), Fail> {
-    expect_fronts(&rt, rt.alloc(), TRACE.as_bytes(), &EXPECTED)?;
-    expect_fronts(&rt, rt.alloc(), SECOND.as_bytes(), &EXPECTED_OF_SECOND)?;
+    expect_fronts(rt.alloc(), TRACE.as_bytes(), &EXPECTED)?;
+    expect_fronts(rt.alloc(), SECOND.as_bytes(), &EXPECTED_OF_SECOND)?;
     let mut files = two_files(rt.alloc(), SECOND.as_bytes().to_vec(rt.alloc())?)?;
-    expect(&rt, rt.alloc(), "replay m t", &mut files, 0, SECOND)?;
+    expect(rt.alloc(), "replay m t", &mut files, 0, SECOND)?;
     Ok(())
 }
 
@@ -82,14 +76,7 @@ fn a_line_behind_the_end_is_refused(rt: HostRuntime) -> Result<(), Fail> {
     let trace = format!(in rt.alloc(); "{TRACE}5 end\n")?;
     let output = format!(in rt.alloc(); "{TRACE}refused line 8\n")?;
     let mut files = two_files(rt.alloc(), trace.into_bytes())?;
-    expect(
-        &rt,
-        rt.alloc(),
-        "replay m t",
-        &mut files,
-        6,
-        output.as_str(),
-    )?;
+    expect(rt.alloc(), "replay m t", &mut files, 6, output.as_str())?;
     Ok(())
 }
 
@@ -104,7 +91,7 @@ fn the_file_that_failed_is_named(rt: HostRuntime) -> Result<(), Fail> {
             4..7 => (8, "read fault: t\n"),
             _ => (0, TRACE),
         };
-        expect(&rt, rt.alloc(), "replay m t", &mut files, status, output)?;
+        expect(rt.alloc(), "replay m t", &mut files, status, output)?;
     }
     Ok(())
 }
@@ -125,7 +112,7 @@ fn a_sink_that_fails_has_the_lines_before(rt: HostRuntime) -> Result<(), Fail> {
         let mut files = two_files(rt.alloc(), cut.as_bytes().to_vec(rt.alloc())?)?;
         let writes = vec![in rt.alloc(); write]?;
         let output = output.as_bytes();
-        expect_through(&rt, rt.alloc(), "replay m t", &mut files, writes, 9, output)?;
+        expect_through(rt.alloc(), "replay m t", &mut files, writes, 9, output)?;
     }
     Ok(())
 }
@@ -142,7 +129,7 @@ fn a_trace_may_have_64_mebibytes_and_no_byte_more(rt: HostRuntime) -> Result<(),
         let blanks = " ".repeat(rt.alloc(), length - lines.len())?;
         let trace = format!(in rt.alloc(); "{lines}{blanks}")?;
         let mut files = two_files(rt.alloc(), trace.into_bytes())?;
-        expect(&rt, rt.alloc(), "replay m t", &mut files, status, output)?;
+        expect(rt.alloc(), "replay m t", &mut files, status, output)?;
     }
     Ok(())
 }

@@ -35,7 +35,7 @@ fn the_file_that_failed_is_named(rt: HostRuntime) -> Result<(), Fail> {
             4..7 => (8, "read fault: s\n"),
             _ => (0, DRIVEN),
         };
-        expect(&rt, rt.alloc(), "drive m s", &mut files, status, output)?;
+        expect(rt.alloc(), "drive m s", &mut files, status, output)?;
     }
     Ok(())
 }
@@ -49,7 +49,7 @@ fn a_file_that_is_missing_is_named(rt: HostRuntime) -> Result<(), Fail> {
     ];
     for (line, output) in rows {
         let mut files = two_files(rt.alloc(), SCRIPT.as_bytes().to_vec(rt.alloc())?)?;
-        expect(&rt, rt.alloc(), line, &mut files, 8, output)?;
+        expect(rt.alloc(), line, &mut files, 8, output)?;
     }
     Ok(())
 }
@@ -72,15 +72,7 @@ fn a_sink_that_fails_has_the_lines_before(rt: HostRuntime) -> Result<(), Fail> {
         let mut files = two_files(rt.alloc(), SCRIPT.as_bytes().to_vec(rt.alloc())?)?;
         let writes = vec![in rt.alloc(); write]?;
         let output = output.as_bytes();
-        expect_through(
-            &rt,
-            rt.alloc(),
-            "drive m s",
-            &mut files,
-            writes,
-            status,
-            output,
-        )?;
+        expect_through(rt.alloc(), "drive m s", &mut files, writes, status, output)?;
     }
     Ok(())
 }
@@ -94,7 +86,7 @@ fn a_script_may_have_a_mebibyte_and_no_byte_more(rt: HostRuntime) -> Result<(), 
     for (length, status, output) in rows {
         let blanks = " ".repeat(rt.alloc(), length)?;
         let mut files = two_files(rt.alloc(), blanks.into_bytes())?;
-        expect(&rt, rt.alloc(), "drive m s", &mut files, status, output)?;
+        expect(rt.alloc(), "drive m s", &mut files, status, output)?;
     }
     Ok(())
 }

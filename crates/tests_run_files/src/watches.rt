@@ -31,7 +31,7 @@ fn the_file_that_failed_is_named(rt: HostRuntime) -> Result<(), Fail> {
             4..7 => (8, "read fault: w\n"),
             _ => (11, JUDGED),
         };
-        expect(&rt, rt.alloc(), "watch m w", &mut files, status, output)?;
+        expect(rt.alloc(), "watch m w", &mut files, status, output)?;
     }
     Ok(())
 }
@@ -49,7 +49,7 @@ fn a_sink_that_fails_has_the_lines_before(rt: HostRuntime) -> Result<(), Fail> {
         let mut files = two_files(rt.alloc(), WATCHES.as_bytes().to_vec(rt.alloc())?)?;
         let writes = vec![in rt.alloc(); write]?;
         let output = output.as_bytes();
-        expect_through(&rt, rt.alloc(), "watch m w", &mut files, writes, 9, output)?;
+        expect_through(rt.alloc(), "watch m w", &mut files, writes, 9, output)?;
     }
     Ok(())
 }
@@ -63,7 +63,7 @@ fn a_file_of_watches_may_have_64_kibibytes_and_no_byte_more(rt: HostRuntime) -> 
     for (length, status, output) in rows {
         let blanks = " ".repeat(rt.alloc(), length)?;
         let mut files = two_files(rt.alloc(), blanks.into_bytes())?;
-        expect(&rt, rt.alloc(), "watch m w", &mut files, status, output)?;
+        expect(rt.alloc(), "watch m w", &mut files, status, output)?;
     }
     Ok(())
 }
