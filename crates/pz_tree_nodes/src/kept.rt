@@ -56,10 +56,29 @@ impl Kept {
         }
     }
 
+    // Whether this is kept of no part at all, as before the first of several.
+    fn is_none(&self) -> bool
+        ensures { IsTrue result → self.now ≡ kept_none }
+    {
+        let summary = &self.summary;
+        self.height == 0
+            && summary.internal == 0
+            && summary.sends == 0
+            && summary.receives == 0
+            && summary.due.is_none()
+            && summary.trouble.is_none()
+            && !self.asks
+            && !self.starts
+            && !self.clocked
+    }
+
     /// Of parts side by side, from the left. The only error is that there is more to do than can be counted.
     pub fn join(&self, right: &Kept) -> Result<Kept, AllocError>
         ensures { IfOk result (λ both. both ≡ joined self.now right.now) }
     {
+        if self.is_none() {
+            return Ok(*right);
+        }
         if !may_join(&self.summary, &right.summary) {
             return Err(AllocError);
         }

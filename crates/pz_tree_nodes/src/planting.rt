@@ -1,7 +1,10 @@
 //! A term becomes nodes. The only error is want of memory.
 
-ghost use Rattle.std.specs.Prelude.{◌≡◌, ◌+◌, ◌∷◌, [], IfOk, OnOk};
+ghost use Rattle.std.specs.Prelude.{◌≡◌, ◌+◌, ◌∷◌, [], ℕ, IfOk, OnOk};
 ghost use Rattle.pz_nodes.specs.Arena.{find};
+ghost use Rattle.pz_classes_code.specs.CodeView as code;
+ghost use Rattle.pz_classes_code.specs.StepView.{view, sequence_view};
+ghost use Rattle.pz_rules.specs.Terms as terms;
 ghost use Rattle.pz_rules.specs.View.{term_view, terms_view};
 ghost use Rattle.pz_tree_nodes.specs.Planting.{EndsInTime, nodes_of, Planted};
 ghost use Rattle.pz_tree_nodes.specs.devices.Parts.{PartRule, TwoRule, AllRule};
@@ -9,14 +12,205 @@ ghost use Rattle.pz_tree_nodes.specs.devices.Parts.{PartRule, TwoRule, AllRule};
 use crate::children::{PlantedAll, PlantedPart, PlantedTwo, exchange, put, put_over};
 use crate::leaves::{leaf_kept, second_alone, unasked, wait_kept};
 use crate::{Head, Kept, Node};
-use pz_classes_code::pz_items::{Boxed, Items};
+use pz_classes_code::pz_items::{Boxed, Items, Shared};
+use pz_classes_code::pz_syntax::Pos;
+use pz_classes_code::{Code, Slot, Step};
 use pz_clock::Shift;
 use pz_nodes::{Key, Nodes, Steps};
 use pz_nodes_shapes::Kids;
-use pz_rules::Term;
+use pz_rules::pz_state::FrameId;
+use pz_rules::{Rest, Term};
 use std::alloc::{AllocError, Global};
 use std::sync::ledger::Ledger;
 
+// A statement that has not begun.
+fn plant_leaf<L: Ledger>(
+    nodes: &mut Nodes<Node>,
+    step: Step,
+    steps: &mut Steps<L>,
+) -> Result<PlantedPart, AllocError>
+    ensures { (c : ℕ) → IfOk result (λ part. PartRule (find nodes.old) (find nodes.new) c
+        (terms.leaf (view step)) part.key part.kept steps.old steps.new) }
+{
+    let kept = leaf_kept(&step);
+    put(nodes, Head::Leaf(step), Kids::none(), kept, steps)
+}
+
+// A delay that has begun, of which so much is left.
+fn plant_wait<L: Ledger>(
+    nodes: &mut Nodes<Node>,
+    left: u128,
+    pos: Pos,
+    clock: u128,
+    steps: &mut Steps<L>,
+) -> Result<PlantedPart, AllocError>
+    ensures { IfOk result (λ part. PartRule (find nodes.old) (find nodes.new) clock
+        (terms.wait left pos) part.key part.kept steps.old steps.new) }
+{
+    let due = clock.saturating_add(left);
+    let kept = wait_kept(left, due);
+    put(nodes, Head::Wait { due, pos }, Kids::none(), kept, steps)
+}
+
+#[cycle(planting)]
+fn plant_sequence<L: Ledger>(
+    alloc: Global,
+    nodes: &mut Nodes<Node>,
+    part: Boxed<Term>,
+    rest: Rest,
+    clock: u128,
+    steps: &mut Steps<L>,
+) -> Result<PlantedPart, AllocError>
+    ensures { IfOk result (λ whole. PartRule (find nodes.old) (find nodes.new) clock
+        (terms.sequence (term_view part) (sequence_view rest)) whole.key whole.kept
+        steps.old steps.new) }
+{
+    let part = plant_boxed(alloc, nodes, part, clock, steps)?;
+    put_over(
+        nodes,
+        Head::Seq(rest),
+        Kids::one(part.key),
+        &part.kept,
+        steps,
+    )
+}
+
+#[cycle(planting)]
+fn plant_parallel<L: Ledger>(
+    alloc: Global,
+    nodes: &mut Nodes<Node>,
+    parts: Items<Term>,
+    clock: u128,
+    steps: &mut Steps<L>,
+) -> Result<PlantedPart, AllocError>
+    ensures { IfOk result (λ whole. PartRule (find nodes.old) (find nodes.new) clock
+        (terms.parallel (terms_view parts)) whole.key whole.kept steps.old steps.new) }
+{
+    let all = plant_all(alloc, nodes, parts, clock, steps)?;
+    put_over(nodes, Head::Par, all.kids, &all.kept, steps)
+}
+
+#[cycle(planting)]
+fn plant_select<L: Ledger>(
+    alloc: Global,
+    nodes: &mut Nodes<Node>,
+    parts: Items<Term>,
+    clock: u128,
+    steps: &mut Steps<L>,
+) -> Result<PlantedPart, AllocError>
+    ensures { IfOk result (λ whole. PartRule (find nodes.old) (find nodes.new) clock
+        (terms.select (terms_view parts)) whole.key whole.kept steps.old steps.new) }
+{
+    let all = plant_all(alloc, nodes, parts, clock, steps)?;
+    put_over(nodes, Head::Sel, all.kids, &all.kept, steps)
+}
+
+#[cycle(planting)]
+fn plant_guard<L: Ledger>(
+    alloc: Global,
+    nodes: &mut Nodes<Node>,
+    test: Shared<Code>,
+    pos: Pos,
+    body: Boxed<Term>,
+    clock: u128,
+    steps: &mut Steps<L>,
+) -> Result<PlantedPart, AllocError>
+    ensures { IfOk result (λ whole. PartRule (find nodes.old) (find nodes.new) clock
+        (terms.guarded (code.view test) pos (term_view body)) whole.key whole.kept
+        steps.old steps.new) }
+{
+    let body = plant_boxed(alloc, nodes, body, clock, steps)?;
+    let shift = Shift::new();
+    let head = Head::Guard { test, pos, shift };
+    let kept = unasked(&body.kept);
+    put_over(nodes, head, Kids::one(body.key), &kept, steps)
+}
+
+#[cycle(planting)]
+fn plant_frame<L: Ledger>(
+    alloc: Global,
+    nodes: &mut Nodes<Node>,
+    frame: FrameId,
+    inputs: usize,
+    results: Shared<Items<Slot>>,
+    body: Boxed<Term>,
+    clock: u128,
+    steps: &mut Steps<L>,
+) -> Result<PlantedPart, AllocError>
+    ensures { IfOk result (λ whole. PartRule (find nodes.old) (find nodes.new) clock
+        (terms.frame frame.0 inputs results (term_view body)) whole.key whole.kept
+        steps.old steps.new) }
+{
+    let body = plant_boxed(alloc, nodes, body, clock, steps)?;
+    let head = Head::Frame {
+        frame,
+        inputs,
+        results,
+    };
+    put_over(nodes, head, Kids::one(body.key), &body.kept, steps)
+}
+
+#[cycle(planting)]
+fn plant_abort<L: Ledger>(
+    alloc: Global,
+    nodes: &mut Nodes<Node>,
+    first: Boxed<Term>,
+    second: Boxed<Term>,
+    clock: u128,
+    steps: &mut Steps<L>,
+) -> Result<PlantedPart, AllocError>
+    ensures { IfOk result (λ whole. PartRule (find nodes.old) (find nodes.new) clock
+        (terms.abort (term_view first) (term_view second)) whole.key whole.kept
+        steps.old steps.new) }
+{
+    let two = plant_two(alloc, nodes, first, second, clock, steps)?;
+    let kept = two.first.join(&two.second)?;
+    put_over(nodes, Head::Abort, two.kids, &kept, steps)
+}
+
+#[cycle(planting)]
+fn plant_idle<L: Ledger>(
+    alloc: Global,
+    nodes: &mut Nodes<Node>,
+    first: Boxed<Term>,
+    second: Boxed<Term>,
+    again: Shared<Step>,
+    clock: u128,
+    steps: &mut Steps<L>,
+) -> Result<PlantedPart, AllocError>
+    ensures { IfOk result (λ whole. PartRule (find nodes.old) (find nodes.new) clock
+        (terms.idle (term_view first) (term_view second) (view again)) whole.key whole.kept
+        steps.old steps.new) }
+{
+    let two = plant_two(alloc, nodes, first, second, clock, steps)?;
+    let kept = two.first.join(&two.second)?;
+    let head = Head::Idle(again, Shift::new());
+    put_over(nodes, head, two.kids, &kept, steps)
+}
+
+// What is interrupted stands still.
+#[cycle(planting)]
+fn plant_handling<L: Ledger>(
+    alloc: Global,
+    nodes: &mut Nodes<Node>,
+    first: Boxed<Term>,
+    second: Boxed<Term>,
+    again: Shared<Step>,
+    clock: u128,
+    steps: &mut Steps<L>,
+) -> Result<PlantedPart, AllocError>
+    ensures { IfOk result (λ whole. PartRule (find nodes.old) (find nodes.new) clock
+        (terms.handling (term_view first) (term_view second) (view again)) whole.key whole.kept
+        steps.old steps.new) }
+{
+    let two = plant_two(alloc, nodes, first, second, clock, steps)?;
+    let shift = Shift::new().freeze(clock);
+    let kept = second_alone(&two.first, &two.second);
+    put_over(nodes, Head::Handling(again, shift), two.kids, &kept, steps)
+}
+
+// Each form has a function of its own: a call clears room for all that its function may need, which for all forms in
+// one would be more than the planting itself.
 #[cycle(planting)]
 fn plant_part<L: Ledger>(
     alloc: Global,
@@ -33,76 +227,26 @@ fn plant_part<L: Ledger>(
             key: None,
             kept: Kept::done(),
         }),
-        Term::Leaf(step) => {
-            let kept = leaf_kept(&step);
-            put(nodes, Head::Leaf(step), Kids::none(), kept, steps)
-        }
-        Term::Wait { left, pos } => {
-            let due = clock.saturating_add(left);
-            let kept = wait_kept(left, due);
-            put(nodes, Head::Wait { due, pos }, Kids::none(), kept, steps)
-        }
-        Term::Seq(part, rest) => {
-            let part = plant_boxed(alloc, nodes, part, clock, steps)?;
-            put_over(
-                nodes,
-                Head::Seq(rest),
-                Kids::one(part.key),
-                &part.kept,
-                steps,
-            )
-        }
-        Term::Par(parts) => {
-            let all = plant_all(alloc, nodes, parts, clock, steps)?;
-            put_over(nodes, Head::Par, all.kids, &all.kept, steps)
-        }
-        Term::Sel(parts) => {
-            let all = plant_all(alloc, nodes, parts, clock, steps)?;
-            put_over(nodes, Head::Sel, all.kids, &all.kept, steps)
-        }
+        Term::Leaf(step) => plant_leaf(nodes, step, steps),
+        Term::Wait { left, pos } => plant_wait(nodes, left, pos, clock, steps),
+        Term::Seq(part, rest) => plant_sequence(alloc, nodes, part, rest, clock, steps),
+        Term::Par(parts) => plant_parallel(alloc, nodes, parts, clock, steps),
+        Term::Sel(parts) => plant_select(alloc, nodes, parts, clock, steps),
         Term::Guard { test, pos, body } => {
-            let body = plant_boxed(alloc, nodes, body, clock, steps)?;
-            let shift = Shift::new();
-            let head = Head::Guard { test, pos, shift };
-            let kept = unasked(&body.kept);
-            put_over(nodes, head, Kids::one(body.key), &kept, steps)
+            plant_guard(alloc, nodes, test, pos, body, clock, steps)
         }
         Term::Frame {
             frame,
             inputs,
             results,
             body,
-        } => {
-            let body = plant_boxed(alloc, nodes, body, clock, steps)?;
-            let head = Head::Frame {
-                frame,
-                inputs,
-                results,
-            };
-            put_over(nodes, head, Kids::one(body.key), &body.kept, steps)
-        }
-        Term::Abort(first, second) => {
-            let two = plant_two(alloc, nodes, first, second, clock, steps)?;
-            let kept = two.first.join(&two.second)?;
-            put_over(nodes, Head::Abort, two.kids, &kept, steps)
-        }
+        } => plant_frame(alloc, nodes, frame, inputs, results, body, clock, steps),
+        Term::Abort(first, second) => plant_abort(alloc, nodes, first, second, clock, steps),
         Term::Idle(first, second, again) => {
-            let two = plant_two(alloc, nodes, first, second, clock, steps)?;
-            let kept = two.first.join(&two.second)?;
-            put_over(
-                nodes,
-                Head::Idle(again, Shift::new()),
-                two.kids,
-                &kept,
-                steps,
-            )
+            plant_idle(alloc, nodes, first, second, again, clock, steps)
         }
-        // What is interrupted stands still.
         Term::Handling(first, second, again) => {
-            let two = plant_two(alloc, nodes, first, second, clock, steps)?;
-            let shift = Shift::new().freeze(clock);
-            let kept = second_alone(&two.first, &two.second);
-            put_over(nodes, Head::Handling(again, shift), two.kids, &kept, steps)
+            plant_handling(alloc, nodes, first, second, again, clock, steps)
         }
     }
 }

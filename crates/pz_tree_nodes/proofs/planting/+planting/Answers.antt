@@ -1,4 +1,4 @@
-use Rattle.std.proofs.Common.{◌≡◌, ◌<◌, ◌+◌, List, length, None, ap, sym, subst, ◌∙◌, arith}
+use Rattle.std.proofs.Common.{◌≡◌, ◌<◌, List, length, None, refl, ap, sym, subst, ◌∙◌, arith}
 use denote.Param.Weighed.{most}
 use Rattle.pz_classes_code.specs.CodeView as code
 use Rattle.pz_classes_code.specs.StepView as step
@@ -13,11 +13,102 @@ use Rattle.pz_tree_standing.specs.Heads as heads
 use Rattle.pz_tree_nodes.specs.declared.node.Head.TheVariants as kind
 use Rattle.pz_tree_nodes.specs.Keeping.{IsKept, raised}
 use Rattle.pz_tree_nodes.specs.devices.Parts.{Forms, PartRule, AllRule}
-use Rattle.pz_tree_nodes.proofs.Forming.{leaf_forms, wait_forms, sequence_forms, parallel_forms, select_forms, guarded_forms, frame_forms, abort_forms, idle_forms, handling_forms}
-use Rattle.pz_tree_nodes.proofs.Keeping.{leaf_is_kept, wait_is_kept, guarded_kept, sequence_kept, frame_kept, handling_kept, abort_kept, idle_kept, parallel_kept, select_kept}
+use Rattle.pz_tree_nodes.proofs.Forming.{sequence_forms, parallel_forms, select_forms, guarded_forms, frame_forms, abort_forms, idle_forms, handling_forms}
+use Rattle.pz_tree_nodes.proofs.Keeping.{guarded_kept, sequence_kept, frame_kept, handling_kept, abort_kept, idle_kept, parallel_kept, select_kept}
 use Rattle.pz_tree_nodes.proofs.Shown.{as_Done, as_Leaf, as_Wait, as_Seq, as_Par, as_Sel, as_Guard, as_Frame, as_Abort, as_Idle, as_Handling}
-use Rattle.pz_tree_nodes.proofs.Rules.{none_under, one_under, two_under, all_under, done_planted, two_planted, plants_next, still_lower, later_still, this_one, all_planted}
+use Rattle.pz_tree_nodes.proofs.Rules.{one_under, two_under, all_under, done_planted, two_planted, plants_next, still_lower, later_still, this_one, all_planted}
 use Rattle.pz_tree_nodes.proofs.planting.+planting.Goals as goal
+
+pub plant_sequence-returns : goal.plant_sequence-returns
+plant_sequence-returns g t c =
+    let part = c.in_ok-part.part in
+    let rest = step.sequence_view c.args.rest in
+    let u = term_view c.args.part in
+    one_under c.put_over.result (find c.args.nodes.now) (find c.plant_boxed.new.nodes) (find c.put_over.new.nodes) c.args.clock c.args.steps.now c.plant_boxed.new.steps c.put_over.new.steps
+    (kind.Seq c.args.rest) c.one.result (raised part.kept) part.kept part.key u (terms.sequence u rest) (terms.sequence u rest)
+    c.put_over.ensures c.in_ok-part.ensures c.one.ensures refl
+    (λ w. w) (sequence_forms c.args.clock u rest) (λ h. sequence_kept c.args.clock u part.kept h rest)
+
+pub plant_parallel-returns : goal.plant_parallel-returns
+plant_parallel-returns g t c =
+    let all = c.in_ok-all.all in
+    let ts = terms_view c.args.parts in
+    all_under c.put_over.result (find c.args.nodes.now) (find c.plant_all.new.nodes) (find c.put_over.new.nodes) c.args.clock c.args.steps.now c.plant_all.new.steps c.put_over.new.steps
+    kind.Par all.kids (raised all.kept) all.kept ts (terms.parallel ts) (terms.parallel ts)
+    c.put_over.ensures c.in_ok-all.ensures refl
+    (λ w. w) (parallel_forms c.args.clock ts) (λ h. parallel_kept c.args.clock ts all.kept h)
+
+pub plant_select-returns : goal.plant_select-returns
+plant_select-returns g t c =
+    let all = c.in_ok-all.all in
+    let ts = terms_view c.args.parts in
+    all_under c.put_over.result (find c.args.nodes.now) (find c.plant_all.new.nodes) (find c.put_over.new.nodes) c.args.clock c.args.steps.now c.plant_all.new.steps c.put_over.new.steps
+    kind.Sel all.kids (raised all.kept) all.kept ts (terms.select ts) (terms.select ts)
+    c.put_over.ensures c.in_ok-all.ensures refl
+    (λ w. w) (select_forms c.args.clock ts) (λ h. select_kept c.args.clock ts all.kept h)
+
+pub plant_guard-returns : goal.plant_guard-returns
+plant_guard-returns g t c =
+    let body = c.in_ok-body.body in
+    let test = code.view c.args.test in
+    let u = term_view c.args.body in
+    one_under c.put_over.result (find c.args.nodes.now) (find c.plant_boxed.new.nodes) (find c.put_over.new.nodes) c.args.clock c.args.steps.now c.plant_boxed.new.steps c.put_over.new.steps
+    (kind.Guard c.args.test c.args.pos c.new-shift.result) c.one.result (raised c.unasked-kept.result) body.kept body.key u (terms.guarded test c.args.pos u) (terms.guarded test c.args.pos u)
+    c.put_over.ensures c.in_ok-body.ensures c.one.ensures refl
+    (λ w. w)
+    (subst (λ s. Forms c.args.clock (heads.guarded test c.args.pos s) (and u no_terms) (terms.guarded test c.args.pos u)) (sym c.new-shift.ensures) (guarded_forms c.args.clock test c.args.pos u))
+    (λ h. subst (λ z. IsKept c.args.clock (terms.guarded test c.args.pos u) (raised z)) (sym c.unasked-kept.ensures) (guarded_kept c.args.clock u body.kept h test c.args.pos))
+
+pub plant_frame-returns : goal.plant_frame-returns
+plant_frame-returns g t c =
+    let body = c.in_ok-body.body in
+    let own = c.args.frame in
+    let inputs = c.args.inputs in
+    let results = c.args.results in
+    let u = term_view c.args.body in
+    one_under c.put_over.result (find c.args.nodes.now) (find c.plant_boxed.new.nodes) (find c.put_over.new.nodes) c.args.clock c.args.steps.now c.plant_boxed.new.steps c.put_over.new.steps
+    (kind.Frame own inputs results) c.one.result (raised body.kept) body.kept body.key u (terms.frame own.0 inputs results u) (terms.frame own.0 inputs results u)
+    c.put_over.ensures c.in_ok-body.ensures c.one.ensures refl
+    (λ w. w) (frame_forms c.args.clock own.0 inputs results u) (λ h. frame_kept c.args.clock u body.kept h own.0 inputs results)
+
+pub plant_abort-returns : goal.plant_abort-returns
+plant_abort-returns g t c =
+    let two = c.in_ok-two.two in
+    let kept = c.in_ok-kept.kept in
+    let u = term_view c.args.first in
+    let v = term_view c.args.second in
+    two_under c.put_over.result (find c.args.nodes.now) (find c.plant_two.new.nodes) (find c.put_over.new.nodes) c.args.clock c.args.steps.now c.plant_two.new.steps c.put_over.new.steps
+    kind.Abort two.kids (raised kept) two.first two.second u v (terms.abort u v) (terms.abort u v)
+    c.put_over.ensures c.in_ok-two.ensures refl
+    (λ w. w) (abort_forms c.args.clock u v)
+    (λ h j. subst (λ z. IsKept c.args.clock (terms.abort u v) (raised z)) (sym c.in_ok-kept.ensures) (abort_kept c.args.clock u two.first h v two.second j))
+
+pub plant_idle-returns : goal.plant_idle-returns
+plant_idle-returns g t c =
+    let two = c.in_ok-two.two in
+    let kept = c.in_ok-kept.kept in
+    let again = step.view c.args.again in
+    let u = term_view c.args.first in
+    let v = term_view c.args.second in
+    two_under c.put_over.result (find c.args.nodes.now) (find c.plant_two.new.nodes) (find c.put_over.new.nodes) c.args.clock c.args.steps.now c.plant_two.new.steps c.put_over.new.steps
+    (kind.Idle c.args.again c.new.result) two.kids (raised kept) two.first two.second u v (terms.idle u v again) (terms.idle u v again)
+    c.put_over.ensures c.in_ok-two.ensures refl
+    (λ w. w)
+    (subst (λ s. Forms c.args.clock (heads.idle again s) (and u (and v no_terms)) (terms.idle u v again)) (sym c.new.ensures) (idle_forms c.args.clock u v again))
+    (λ h j. subst (λ z. IsKept c.args.clock (terms.idle u v again) (raised z)) (sym c.in_ok-kept.ensures) (idle_kept c.args.clock u two.first h v two.second j again))
+
+pub plant_handling-returns : goal.plant_handling-returns
+plant_handling-returns g t c =
+    let two = c.in_ok-two.two in
+    let again = step.view c.args.again in
+    let u = term_view c.args.first in
+    let v = term_view c.args.second in
+    two_under c.put_over.result (find c.args.nodes.now) (find c.plant_two.new.nodes) (find c.put_over.new.nodes) c.args.clock c.args.steps.now c.plant_two.new.steps c.put_over.new.steps
+    (kind.Handling c.args.again c.freeze-shift.result) two.kids (raised c.second_alone-kept.result) two.first two.second u v (terms.handling u v again) (terms.handling u v again)
+    c.put_over.ensures c.in_ok-two.ensures refl
+    (λ w. w)
+    (subst (λ s. Forms c.args.clock (heads.handling again s) (and u (and v no_terms)) (terms.handling u v again)) (sym (c.freeze-shift.ensures.shift ∙ ap (λ s. frozen s c.args.clock) c.new.ensures)) (handling_forms c.args.clock u v again))
+    (λ h j. subst (λ z. IsKept c.args.clock (terms.handling u v again) (raised z)) (sym c.second_alone-kept.ensures) (handling_kept c.args.clock u two.first h v two.second j again))
 
 pub plant_part-returns-in-Done : goal.plant_part-returns-in-Done
 plant_part-returns-in-Done g t c =
@@ -26,113 +117,34 @@ plant_part-returns-in-Done g t c =
     (done_planted m c.args.clock c.args.steps.now (term_view c.args.term) (as_Done c.args.term c.in-Done.is))
 
 pub plant_part-returns-in-Leaf : goal.plant_part-returns-in-Leaf
-plant_part-returns-in-Leaf g t c =
-    let s = step.view c.in-Leaf.step in
-    none_under c.put.result (find c.args.nodes.now) (find c.put.new.nodes) c.args.clock c.args.steps.now c.put.new.steps (kind.Leaf c.in-Leaf.step) c.none.result c.leaf_kept-kept.result
-    (terms.leaf s) (term_view c.args.term) c.put.ensures c.none.ensures (as_Leaf c.args.term c.in-Leaf.step c.in-Leaf.is)
-    (λ w. (leaf_forms c.args.clock s, subst (IsKept c.args.clock (terms.leaf s)) (sym c.leaf_kept-kept.ensures) (leaf_is_kept c.args.clock s)))
+plant_part-returns-in-Leaf g t c = rw (as_Leaf c.args.term c.in-Leaf.step c.in-Leaf.is) (c.plant_leaf.ensures c.args.clock)
 
 pub plant_part-returns-in-Wait : goal.plant_part-returns-in-Wait
-plant_part-returns-in-Wait g t c =
-    let clock = c.args.clock in
-    let left = c.in-Wait.left in
-    let due = c.saturating_add-due.result in
-    none_under c.put-in-Wait.result (find c.args.nodes.now) (find c.put-in-Wait.new.nodes) clock c.args.steps.now c.put-in-Wait.new.steps (kind.Wait due c.in-Wait.pos) c.none-in-Wait.result c.wait_kept-kept.result
-    (terms.wait left c.in-Wait.pos) (term_view c.args.term) c.put-in-Wait.ensures c.none-in-Wait.ensures (as_Wait c.args.term left c.in-Wait.pos c.in-Wait.is)
-    (λ w.
-    let e : due ≡ clock + left = omega (arith, w, c.saturating_add-due.ensures) in
-    (wait_forms clock left due c.in-Wait.pos e, subst (IsKept clock (terms.wait left c.in-Wait.pos)) (sym c.wait_kept-kept.ensures) (wait_is_kept clock left due c.in-Wait.pos e)))
+plant_part-returns-in-Wait g t c = rw (as_Wait c.args.term c.in-Wait.left c.in-Wait.pos c.in-Wait.is) c.plant_wait.ensures
 
-pub plant_part-returns-in_ok-part-in-Seq : goal.plant_part-returns-in_ok-part-in-Seq
-plant_part-returns-in_ok-part-in-Seq g t c =
-    let part = c.in_ok-part-in-Seq.part in
-    let rest = step.sequence_view c.in-Seq.rest in
-    let u = term_view c.in-Seq.part in
-    one_under c.put_over.result (find c.args.nodes.now) (find c.plant_boxed.new.nodes) (find c.put_over.new.nodes) c.args.clock c.args.steps.now c.plant_boxed.new.steps c.put_over.new.steps
-    (kind.Seq c.in-Seq.rest) c.one.result (raised part.kept) part.kept part.key u (terms.sequence u rest) (term_view c.args.term)
-    c.put_over.ensures c.in_ok-part-in-Seq.ensures c.one.ensures (as_Seq c.args.term c.in-Seq.part c.in-Seq.rest c.in-Seq.is)
-    (λ w. w) (sequence_forms c.args.clock u rest) (λ h. sequence_kept c.args.clock u part.kept h rest)
+pub plant_part-returns-in-Seq : goal.plant_part-returns-in-Seq
+plant_part-returns-in-Seq g t c = rw (as_Seq c.args.term c.in-Seq.part c.in-Seq.rest c.in-Seq.is) c.plant_sequence.ensures
 
-pub plant_part-returns-in_ok-all-in-Par : goal.plant_part-returns-in_ok-all-in-Par
-plant_part-returns-in_ok-all-in-Par g t c =
-    let all = c.in_ok-all-in-Par.all in
-    let ts = terms_view c.in-Par.parts in
-    all_under c.put_over-in-Par.result (find c.args.nodes.now) (find c.plant_all.new.nodes) (find c.put_over-in-Par.new.nodes) c.args.clock c.args.steps.now c.plant_all.new.steps c.put_over-in-Par.new.steps
-    kind.Par all.kids (raised all.kept) all.kept ts (terms.parallel ts) (term_view c.args.term)
-    c.put_over-in-Par.ensures c.in_ok-all-in-Par.ensures (as_Par c.args.term c.in-Par.parts c.in-Par.is)
-    (λ w. w) (parallel_forms c.args.clock ts) (λ h. parallel_kept c.args.clock ts all.kept h)
+pub plant_part-returns-in-Par : goal.plant_part-returns-in-Par
+plant_part-returns-in-Par g t c = rw (as_Par c.args.term c.in-Par.parts c.in-Par.is) c.plant_parallel.ensures
 
-pub plant_part-returns-in_ok-all-in-Sel : goal.plant_part-returns-in_ok-all-in-Sel
-plant_part-returns-in_ok-all-in-Sel g t c =
-    let all = c.in_ok-all-in-Sel.all in
-    let ts = terms_view c.in-Sel.parts in
-    all_under c.put_over-in-Sel.result (find c.args.nodes.now) (find c.plant_all-in-Sel.new.nodes) (find c.put_over-in-Sel.new.nodes) c.args.clock c.args.steps.now c.plant_all-in-Sel.new.steps c.put_over-in-Sel.new.steps
-    kind.Sel all.kids (raised all.kept) all.kept ts (terms.select ts) (term_view c.args.term)
-    c.put_over-in-Sel.ensures c.in_ok-all-in-Sel.ensures (as_Sel c.args.term c.in-Sel.parts c.in-Sel.is)
-    (λ w. w) (select_forms c.args.clock ts) (λ h. select_kept c.args.clock ts all.kept h)
+pub plant_part-returns-in-Sel : goal.plant_part-returns-in-Sel
+plant_part-returns-in-Sel g t c = rw (as_Sel c.args.term c.in-Sel.parts c.in-Sel.is) c.plant_select.ensures
 
-pub plant_part-returns-in_ok-body-in-Guard : goal.plant_part-returns-in_ok-body-in-Guard
-plant_part-returns-in_ok-body-in-Guard g t c =
-    let body = c.in_ok-body-in-Guard.body in
-    let test = code.view c.in-Guard.test in
-    let u = term_view c.in-Guard.body in
-    one_under c.put_over-in-Guard.result (find c.args.nodes.now) (find c.plant_boxed-in-Guard.new.nodes) (find c.put_over-in-Guard.new.nodes) c.args.clock c.args.steps.now c.plant_boxed-in-Guard.new.steps c.put_over-in-Guard.new.steps
-    (kind.Guard c.in-Guard.test c.in-Guard.pos c.new-shift.result) c.one-in-Guard.result (raised c.unasked-kept.result) body.kept body.key u (terms.guarded test c.in-Guard.pos u) (term_view c.args.term)
-    c.put_over-in-Guard.ensures c.in_ok-body-in-Guard.ensures c.one-in-Guard.ensures (as_Guard c.args.term c.in-Guard.test c.in-Guard.pos c.in-Guard.body c.in-Guard.is)
-    (λ w. w)
-    (subst (λ s. Forms c.args.clock (heads.guarded test c.in-Guard.pos s) (and u no_terms) (terms.guarded test c.in-Guard.pos u)) (sym c.new-shift.ensures) (guarded_forms c.args.clock test c.in-Guard.pos u))
-    (λ h. subst (λ z. IsKept c.args.clock (terms.guarded test c.in-Guard.pos u) (raised z)) (sym c.unasked-kept.ensures) (guarded_kept c.args.clock u body.kept h test c.in-Guard.pos))
+pub plant_part-returns-in-Guard : goal.plant_part-returns-in-Guard
+plant_part-returns-in-Guard g t c = rw (as_Guard c.args.term c.in-Guard.test c.in-Guard.pos c.in-Guard.body c.in-Guard.is) c.plant_guard.ensures
 
-pub plant_part-returns-in_ok-body-in-Frame : goal.plant_part-returns-in_ok-body-in-Frame
-plant_part-returns-in_ok-body-in-Frame g t c =
-    let body = c.in_ok-body-in-Frame.body in
-    let own = c.in-Frame.frame in
-    let inputs = c.in-Frame.inputs in
-    let results = c.in-Frame.results in
-    let u = term_view c.in-Frame.body in
-    one_under c.put_over-in-Frame.result (find c.args.nodes.now) (find c.plant_boxed-in-Frame.new.nodes) (find c.put_over-in-Frame.new.nodes) c.args.clock c.args.steps.now c.plant_boxed-in-Frame.new.steps c.put_over-in-Frame.new.steps
-    (kind.Frame own inputs results) c.one-in-Frame.result (raised body.kept) body.kept body.key u (terms.frame own.0 inputs results u) (term_view c.args.term)
-    c.put_over-in-Frame.ensures c.in_ok-body-in-Frame.ensures c.one-in-Frame.ensures (as_Frame c.args.term own inputs results c.in-Frame.body c.in-Frame.is)
-    (λ w. w) (frame_forms c.args.clock own.0 inputs results u) (λ h. frame_kept c.args.clock u body.kept h own.0 inputs results)
+pub plant_part-returns-in-Frame : goal.plant_part-returns-in-Frame
+plant_part-returns-in-Frame g t c = rw (as_Frame c.args.term c.in-Frame.frame c.in-Frame.inputs c.in-Frame.results c.in-Frame.body c.in-Frame.is) c.plant_frame.ensures
 
-pub plant_part-returns-in_ok-kept-in-Abort : goal.plant_part-returns-in_ok-kept-in-Abort
-plant_part-returns-in_ok-kept-in-Abort g t c =
-    let two = c.in_ok-two-in-Abort.two in
-    let kept = c.in_ok-kept-in-Abort.kept in
-    let u = term_view c.in-Abort.first in
-    let v = term_view c.in-Abort.second in
-    two_under c.put_over-in-Abort.result (find c.args.nodes.now) (find c.plant_two.new.nodes) (find c.put_over-in-Abort.new.nodes) c.args.clock c.args.steps.now c.plant_two.new.steps c.put_over-in-Abort.new.steps
-    kind.Abort two.kids (raised kept) two.first two.second u v (terms.abort u v) (term_view c.args.term)
-    c.put_over-in-Abort.ensures c.in_ok-two-in-Abort.ensures (as_Abort c.args.term c.in-Abort.first c.in-Abort.second c.in-Abort.is)
-    (λ w. w) (abort_forms c.args.clock u v)
-    (λ h j. subst (λ z. IsKept c.args.clock (terms.abort u v) (raised z)) (sym c.in_ok-kept-in-Abort.ensures) (abort_kept c.args.clock u two.first h v two.second j))
+pub plant_part-returns-in-Abort : goal.plant_part-returns-in-Abort
+plant_part-returns-in-Abort g t c = rw (as_Abort c.args.term c.in-Abort.first c.in-Abort.second c.in-Abort.is) c.plant_abort.ensures
 
-pub plant_part-returns-in_ok-kept-in-Idle : goal.plant_part-returns-in_ok-kept-in-Idle
-plant_part-returns-in_ok-kept-in-Idle g t c =
-    let two = c.in_ok-two-in-Idle.two in
-    let kept = c.in_ok-kept-in-Idle.kept in
-    let again = step.view c.in-Idle.again in
-    let u = term_view c.in-Idle.first in
-    let v = term_view c.in-Idle.second in
-    two_under c.put_over-in-Idle.result (find c.args.nodes.now) (find c.plant_two-in-Idle.new.nodes) (find c.put_over-in-Idle.new.nodes) c.args.clock c.args.steps.now c.plant_two-in-Idle.new.steps c.put_over-in-Idle.new.steps
-    (kind.Idle c.in-Idle.again c.new.result) two.kids (raised kept) two.first two.second u v (terms.idle u v again) (term_view c.args.term)
-    c.put_over-in-Idle.ensures c.in_ok-two-in-Idle.ensures (as_Idle c.args.term c.in-Idle.first c.in-Idle.second c.in-Idle.again c.in-Idle.is)
-    (λ w. w)
-    (subst (λ s. Forms c.args.clock (heads.idle again s) (and u (and v no_terms)) (terms.idle u v again)) (sym c.new.ensures) (idle_forms c.args.clock u v again))
-    (λ h j. subst (λ z. IsKept c.args.clock (terms.idle u v again) (raised z)) (sym c.in_ok-kept-in-Idle.ensures) (idle_kept c.args.clock u two.first h v two.second j again))
+pub plant_part-returns-in-Idle : goal.plant_part-returns-in-Idle
+plant_part-returns-in-Idle g t c = rw (as_Idle c.args.term c.in-Idle.first c.in-Idle.second c.in-Idle.again c.in-Idle.is) c.plant_idle.ensures
 
-pub plant_part-returns-in_ok-two-in-Handling : goal.plant_part-returns-in_ok-two-in-Handling
-plant_part-returns-in_ok-two-in-Handling g t c =
-    let two = c.in_ok-two-in-Handling.two in
-    let again = step.view c.in-Handling.again in
-    let u = term_view c.in-Handling.first in
-    let v = term_view c.in-Handling.second in
-    two_under c.put_over-in-Handling.result (find c.args.nodes.now) (find c.plant_two-in-Handling.new.nodes) (find c.put_over-in-Handling.new.nodes) c.args.clock c.args.steps.now c.plant_two-in-Handling.new.steps c.put_over-in-Handling.new.steps
-    (kind.Handling c.in-Handling.again c.freeze-shift.result) two.kids (raised c.second_alone-kept.result) two.first two.second u v (terms.handling u v again) (term_view c.args.term)
-    c.put_over-in-Handling.ensures c.in_ok-two-in-Handling.ensures (as_Handling c.args.term c.in-Handling.first c.in-Handling.second c.in-Handling.again c.in-Handling.is)
-    (λ w. w)
-    (subst (λ s. Forms c.args.clock (heads.handling again s) (and u (and v no_terms)) (terms.handling u v again)) (sym (c.freeze-shift.ensures.shift ∙ ap (λ s. frozen s c.args.clock) c.new-in-Handling.ensures)) (handling_forms c.args.clock u v again))
-    (λ h j. subst (λ z. IsKept c.args.clock (terms.handling u v again) (raised z)) (sym c.second_alone-kept.ensures) (handling_kept c.args.clock u two.first h v two.second j again))
+pub plant_part-returns-in-Handling : goal.plant_part-returns-in-Handling
+plant_part-returns-in-Handling g t c = rw (as_Handling c.args.term c.in-Handling.first c.in-Handling.second c.in-Handling.again c.in-Handling.is) c.plant_handling.ensures
 
 pub plant_boxed-returns : goal.plant_boxed-returns
 plant_boxed-returns g t c = rw (sym c.into_inner.ensures) c.plant_part.ensures
